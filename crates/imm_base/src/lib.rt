@@ -1,0 +1,27 @@
+//! Values, and the traits of the outside: what every other crate stands on.
+#![tactic(auto)]
+
+mod comparers;
+mod dup;
+mod gate;
+mod mem;
+mod memory;
+mod order;
+mod outside;
+mod pure;
+mod text24;
+mod val;
+
+pub use comparers::{ValEq, ValOrder, ValTest};
+pub use dup::{Dup, Item, Key};
+pub use gate::{FreeGate, Gate};
+pub use mem::{MemSink, MemSource};
+pub use memory::Memory;
+pub use order::{HashEq, Order, Test};
+pub use outside::{Failed, Sink, Source};
+pub use pure::{PureSink, PureSource};
+pub use text24::Text24;
+pub use val::{Edit, Step, Val};
+
+/// The most elements of a collection.
+pub const LIMIT: u32 = 16_384;
