@@ -1,0 +1,11 @@
+pub mod Judging
+pub mod Lines
+pub mod Words
+pub mod Numerals
+pub mod Arguments
+pub mod Drafts
+pub mod Reading
+pub mod Printing
+pub mod Runnable
+pub mod FirstForm
+pub mod Grammar
