@@ -3,23 +3,29 @@
 
 mod comparers;
 mod dup;
+mod faults;
 mod gate;
 mod mem;
 mod memory;
 mod order;
 mod outside;
+mod pair;
 mod pure;
+mod std_streams;
 mod text24;
 mod val;
 
 pub use comparers::{ValEq, ValOrder, ValTest};
 pub use dup::{Dup, Item, Key};
-pub use gate::{FreeGate, Gate};
+pub use faults::{MapFault, SetFault};
+pub use gate::{FreeGate, Gate, Tokens};
 pub use mem::{MemSink, MemSource};
 pub use memory::Memory;
 pub use order::{HashEq, Order, Test};
 pub use outside::{Failed, Sink, Source};
+pub use pair::Pair;
 pub use pure::{PureSink, PureSource};
+pub use std_streams::{StdSink, StdSource};
 pub use text24::Text24;
 pub use val::{Edit, Step, Val};
 
