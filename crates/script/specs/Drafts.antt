@@ -13,7 +13,7 @@ use Rattle.script.specs.declared.fault.Code.{Code}
 use Rattle.script.specs.declared.fault.Code.TheVariants.{Name, Kind as KindCode, Structure, Limit}
 use Rattle.script.specs.declared.line.Line.{Line}
 use Rattle.script.specs.declared.line.Line.TheVariants as lines
-use Rattle.script.specs.declared.draft.LocalName.{LocalName}
+use Rattle.script.specs.declared.lookup.LocalName.{LocalName}
 use Rattle.script.specs.declared.draft.Draft.{Draft}
 
 -- ---- what is declared and bound

@@ -2,11 +2,13 @@
 use Rattle.std.specs.Prelude.{ℕ, List, [], ◌∷◌, length, Bool, true, false, ◌&&◌, nat_le, Result, Ok, Err, if◌then◌else◌}
 use Rattle.std.specs.List.{list_all}
 use Rattle.std.specs.Str.{bytes_eq}
+use Rattle.imm_base.specs.declared.val.Val.{Val}
 use Rattle.imm_base.specs.declared.val.Val.TheVariants.{Int}
 use Rattle.plain_model.specs.declared.plain.Kind.{Kind}
 use Rattle.plain_model.specs.declared.plain.Kind.TheVariants as kinds
 use Rattle.plain_model.specs.declared.plain.Values.{Values}
 use Rattle.plain_model.specs.declared.plain.Values.TheVariants as values
+use Rattle.plain_model.specs.declared.commands.PlainOp.{PlainOp}
 use Rattle.plain_model.specs.declared.commands.PlainOp.TheVariants as ops
 use Rattle.plain_model.specs.declared.commands.Command.{Command}
 use Rattle.plain_model.specs.declared.commands.Command.TheVariants as commands
@@ -28,9 +30,17 @@ abbrev pub is_nothing : Values → Bool
 is_nothing (values.List []) = true
 is_nothing _ = false
 
+abbrev pub is_integer : Val → Bool
+is_integer (Int z) = true
+is_integer _ = false
+
+abbrev pub adds_integer : PlainOp → Bool
+adds_integer (ops.Add v) = is_integer v
+adds_integer _ = false
+
 -- an integer added to this cell, or a read of it
 abbrev pub is_built : List ℕ → Command → Bool
-is_built cell (commands.Update c (ops.Add (Int z))) = bytes_eq c cell
+is_built cell (commands.Update c op) = bytes_eq c cell && adds_integer op
 is_built cell (commands.Read c x) = bytes_eq c cell
 is_built cell _ = false
 

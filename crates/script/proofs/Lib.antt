@@ -1,0 +1,6 @@
+mod Cut
+mod Digits
+mod Lined
+mod Loop
+mod Names
+mod Runs

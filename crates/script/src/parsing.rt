@@ -1,0 +1,24 @@
+//! Bytes as a script.
+
+ghost use Rattle.std.specs.Prelude.{◌≤◌, length, IfOk};
+ghost use Rattle.script.specs.Grammar.{read_script, Answers};
+ghost use Rattle.script.specs.Runnable.{IsRunnable};
+
+use crate::fault::ParseError;
+use crate::first_form::first_form;
+use crate::reading::read_text;
+use plain_model::Script;
+use std::alloc::Global;
+
+/// The script that the bytes are. `Fault` names the least refused line and the least code on it; at present every text that is not a script is refused as a whole.
+pub fn parse(alloc: Global, bytes: &[u8]) -> Result<Script, ParseError>
+    requires { length bytes.now ≤ 1048576 }
+    ensures exact { Answers result (read_script bytes.now) }
+    ensures sound { IfOk result (λ script. IsRunnable script) }
+{
+    let read = read_text(alloc, bytes)?;
+    match first_form(alloc, bytes, read)? {
+        Ok(script) => Ok(script),
+        Err(fault) => Err(ParseError::Fault(fault)),
+    }
+}
