@@ -5,6 +5,8 @@ mod comparers;
 mod dup;
 mod faults;
 mod gate;
+mod hashes;
+pub mod laws;
 mod mem;
 mod memory;
 mod order;

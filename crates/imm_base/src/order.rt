@@ -1,11 +1,13 @@
+//! Orders, equalities and tests, which collections take as parameters.
 ghost use Rattle.std.specs.Prelude.{◌≡◌, ℤ, Bool, true};
 ghost use Rattle.std.specs.Cmp.{IsTotalOrder, IsEquivalence};
 ghost use Rattle.std.specs.declared.cmp.Ordering.{Ordering};
 
 use std::cmp::Ordering;
 
-/// An order of elements: a total preorder.
+/// An order of elements: a total preorder, so different elements may compare equal.
 pub trait Order<T>: Copy + Eq {
+    /// What `compare` answers.
     ghost order: { Self → T → T → Ordering };
 
     fn compare(&self, a: &T, b: &T) -> Ordering
@@ -15,9 +17,14 @@ pub trait Order<T>: Copy + Eq {
 }
 
 /// An equality of elements, with a hash that same elements share.
+///
+/// An equivalence calls each element same to itself. What is equal as a `Key` is one value, so equal
+/// elements are same (`laws::equal_is_same`).
 pub trait HashEq<T>: Copy + Eq {
+    /// What `same` answers.
     ghost same: { Self → T → T → Bool };
 
+    /// What `hash` answers.
     ghost hash: { Self → T → ℤ };
 
     fn same(&self, a: &T, b: &T) -> bool
@@ -33,6 +40,7 @@ pub trait HashEq<T>: Copy + Eq {
 
 /// A test of elements.
 pub trait Test<T> {
+    /// What `holds` answers.
     ghost passes: { Self → T → Bool };
 
     fn holds(&self, value: &T) -> bool
