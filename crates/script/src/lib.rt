@@ -11,7 +11,6 @@ mod lines;
 mod lookup;
 mod numerals;
 mod parsing;
-mod pending;
 mod printing;
 mod reading;
 mod table;
@@ -21,3 +20,6 @@ pub use fault::{ParseError, ParseFault};
 pub use parsing::parse;
 pub use plain_model::{Part, Script};
 pub use printing::print;
+
+#[cfg(test)]
+mod tests;

@@ -5,9 +5,8 @@ ghost use Rattle.std.specs.List.{flat_map};
 ghost use Rattle.plain_model.specs.Text.{line, decl_words, command_words};
 ghost use Rattle.script.specs.Printing.{header_text, part_text, printed};
 
-use crate::pending::{put_command, put_decl};
 use imm_base::Memory;
-use plain_model::{CellDecl, Command, Part, Script};
+use plain_model::{CellDecl, Command, Part, Script, put_command, put_decl};
 use std::alloc::{AllocError, Global};
 
 fn put_cell_line(text: &mut String, cell: &CellDecl) -> Result<(), AllocError>
