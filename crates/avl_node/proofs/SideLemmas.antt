@@ -1,0 +1,102 @@
+-- The place in a node's list, from the place in one side.
+use Rattle.std.proofs.Common.{◌≡◌, ℕ, suc, zero, ◌+◌, Bool, true, false, cond, List, [], ◌∷◌, ◌++◌, length, arith, ap, sym, ◌∙◌, refl, subst}
+use Rattle.std.specs.List.{AllByRecursion}
+use Rattle.std.specs.Ordering.{is_lt, is_eq}
+use Rattle.std.specs.declared.cmp.Ordering.{Ordering}
+use Rattle.std.specs.declared.cmp.Ordering.TheVariants.{Less, Equal, Greater}
+use Rattle.avl_node.specs.Sides.{place_at, is_equal_at, IsSplit, SidesAscend}
+
+module _ {T : Type 0} where
+  all_middle : (P : T → Type 0) (l : List T) (x : T) (m : List T) → AllByRecursion P (l ++ x ∷ m) → P x
+  all_middle P [] x m all = all.0
+  all_middle P (y ∷ l) x m all = all_middle P l x m all.1
+
+  all_front : (P : T → Type 0) (l m : List T) → AllByRecursion P (l ++ m) → AllByRecursion P l
+  all_front P [] m all = tt
+  all_front P (y ∷ l) m all = (all.0, all_front P l m all.1)
+
+module _ {T : Type 0} (side : T → Ordering) where
+  split_front : (l m : List T) → IsSplit side (l ++ m) → IsSplit side l
+  split_front [] m up = tt
+  split_front (y ∷ l) m up = (λ e. all_front _ l m (up.0 e), λ e. all_front _ l m (up.1 e), split_front l m up.2)
+
+  split_back : (l : List T) (x : T) (m : List T) → IsSplit side (l ++ x ∷ m) → IsSplit side m
+  split_back [] x m up = up.2
+  split_back (y ∷ l) x m up = split_back l x m up.2
+
+  place_cons_less : (y : T) (ys : List T) → side y ≡ Less → place_at side (y ∷ ys) ≡ suc (place_at side ys)
+  place_cons_less y ys less = rw less (omega arith)
+
+  place_cons_level : (y : T) (ys : List T) → is_lt (side y) ≡ false → place_at side (y ∷ ys) ≡ zero
+  place_cons_level y ys level = rw level refl
+
+  place_right : (l : List T) (x : T) (m : List T) → IsSplit side (l ++ x ∷ m) → side x ≡ Less → place_at side (l ++ x ∷ m) ≡ length l + 1 + place_at side m
+  place_right [] x m up less = place_cons_less x m less ∙ omega arith
+  place_right (y ∷ l) x m up less =
+      elim (is_lt (side y)) as (λ t. is_lt (side y) ≡ t → cond t (1 + place_at side (l ++ x ∷ m)) 0 ≡ suc (length l) + 1 + place_at side m) [
+        | true ↦ λ e. omega (arith, place_right l x m up.2 less)
+        | false ↦ λ e. absurd (let not_less : is_lt (side x) ≡ false = all_middle _ l x m (up.0 e) in let lower : is_lt (side x) ≡ true = ap is_lt less in cc)
+      ] refl
+
+  place_left : (l : List T) (x : T) (m : List T) → is_lt (side x) ≡ false → place_at side (l ++ x ∷ m) ≡ place_at side l
+  place_left [] x m level = place_cons_level x m level
+  place_left (y ∷ l) x m level =
+      ap (λ n. cond (is_lt (side y)) (1 + n) 0) (place_left l x m level)
+
+  level_right : (l : List T) (x : T) (m : List T) (i : ℕ) → is_equal_at side (l ++ x ∷ m) (length l + 1 + i) ≡ is_equal_at side m i
+  level_right [] x m i = ap (λ k. is_equal_at side (x ∷ m) k) (let e : 0 + 1 + i ≡ suc i = omega arith in e)
+  level_right (y ∷ l) x m i =
+      ap (λ k. is_equal_at side (y ∷ (l ++ x ∷ m)) k) (let e : suc (length l) + 1 + i ≡ suc (length l + 1 + i) = omega arith in e) ∙ level_right l x m i
+
+  level_cons : (r : Ordering) (y : T) (l : List T) (x : T) (m : List T) → side y ≡ r → IsSplit side (y ∷ (l ++ x ∷ m)) → side x ≡ Equal → is_equal_at side (l ++ x ∷ m) (place_at side l) ≡ true → is_equal_at side (y ∷ (l ++ x ∷ m)) (place_at side (y ∷ l)) ≡ true
+  level_cons Less y l x m is up same rest =
+      ap (λ k. is_equal_at side (y ∷ (l ++ x ∷ m)) k) (place_cons_less y l is) ∙ rest
+  level_cons Equal y l x m is up same rest =
+      ap (λ k. is_equal_at side (y ∷ (l ++ x ∷ m)) k) (place_cons_level y l (ap is_lt is)) ∙ ap is_eq is
+  level_cons Greater y l x m is up same rest = absurd (let more : side x ≡ Greater = all_middle _ l x m (up.1 is) in cc)
+
+  level_middle : (l : List T) (x : T) (m : List T) → IsSplit side (l ++ x ∷ m) → side x ≡ Equal → is_equal_at side (l ++ x ∷ m) (place_at side l) ≡ true
+  level_middle [] x m up same = ap is_eq same
+  level_middle (y ∷ l) x m up same = level_cons (side y) y l x m refl up same (level_middle l x m up.2 same)
+
+  level_left : (l : List T) (x : T) (m : List T) → side x ≡ Greater → is_equal_at side (l ++ x ∷ m) (place_at side l) ≡ is_equal_at side l (place_at side l)
+  level_left [] x m more = ap is_eq more
+  level_left (y ∷ l) x m more =
+      elim (is_lt (side y)) as (λ t. is_lt (side y) ≡ t → is_equal_at side (y ∷ (l ++ x ∷ m)) (cond t (1 + place_at side l) 0) ≡ is_equal_at side (y ∷ l) (cond t (1 + place_at side l) 0)) [
+        | true ↦ λ e. (let up : 1 + place_at side l ≡ suc (place_at side l) = omega arith in subst (λ k. is_equal_at side (y ∷ (l ++ x ∷ m)) k ≡ is_equal_at side (y ∷ l) k) (sym up) (level_left l x m more))
+        | false ↦ λ e. refl
+      ] refl
+
+-- the answer for a node, from the answer for one side
+module _ {T : Type 0} (side : T → Ordering) (items l : List T) (x : T) (m : List T) (is : items ≡ l ++ x ∷ m) where
+  whole : SidesAscend side items → IsSplit side (l ++ x ∷ m)
+  whole up = subst (λ (t : List T). IsSplit side t) is up.split
+
+  front : SidesAscend side items → SidesAscend side l
+  front up = record { split = split_front side l (x ∷ m) (whole up) }
+
+  back : SidesAscend side items → SidesAscend side m
+  back up = record { split = split_back side l x m (whole up) }
+
+  pub less_place : (before place : ℕ) → before ≡ length l → side x ≡ Less → (SidesAscend side m → place ≡ place_at side m) → SidesAscend side items → before + 1 + place ≡ place_at side items
+  less_place before place b less child up =
+      let below : place ≡ place_at side m = child (back up) in
+      let there : place_at side items ≡ length l + 1 + place_at side m = ap (λ (t : List T). place_at side t) is ∙ place_right side l x m (whole up) less in
+      omega arith
+
+  pub less_found : (before place : ℕ) (found : Bool) → before ≡ length l → (SidesAscend side m → found ≡ is_equal_at side m place) → SidesAscend side items → found ≡ is_equal_at side items (before + 1 + place)
+  less_found before place found b child up =
+      child (back up) ∙ sym (level_right side l x m place) ∙ ap (λ (i : ℕ). is_equal_at side (l ++ x ∷ m) (i + 1 + place)) (sym b) ∙ ap (λ (t : List T). is_equal_at side t (before + 1 + place)) (sym is)
+
+  pub left_place : (place : ℕ) → is_lt (side x) ≡ false → (SidesAscend side l → place ≡ place_at side l) → SidesAscend side items → place ≡ place_at side items
+  left_place place level child up =
+      child (front up) ∙ sym (place_left side l x m level) ∙ ap (λ (t : List T). place_at side t) (sym is)
+
+  pub equal_found : (place : ℕ) → side x ≡ Equal → (SidesAscend side l → place ≡ place_at side l) → SidesAscend side items → true ≡ is_equal_at side items place
+  equal_found place same child up =
+      sym (level_middle side l x m (whole up) same) ∙ ap (λ (i : ℕ). is_equal_at side (l ++ x ∷ m) i) (sym (child (front up))) ∙ ap (λ (t : List T). is_equal_at side t place) (sym is)
+
+  pub greater_found : (place : ℕ) (found : Bool) → side x ≡ Greater → (SidesAscend side l → place ≡ place_at side l) → (SidesAscend side l → found ≡ is_equal_at side l place) → SidesAscend side items → found ≡ is_equal_at side items place
+  greater_found place found more child seen up =
+      let below : place ≡ place_at side l = child (front up) in
+      seen (front up) ∙ ap (λ (i : ℕ). is_equal_at side l i) below ∙ sym (level_left side l x m more) ∙ ap (λ (i : ℕ). is_equal_at side (l ++ x ∷ m) i) (sym below) ∙ ap (λ (t : List T). is_equal_at side t place) (sym is)

@@ -1,0 +1,6 @@
+pub mod Ends
+pub mod Least
+pub mod Listed
+pub mod Rows
+pub mod Shape
+pub mod Sides
