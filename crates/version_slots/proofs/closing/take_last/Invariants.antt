@@ -1,0 +1,20 @@
+use Rattle.std.proofs.Common.{◌≡◌, ℕ, ◌-◌, ◌<◌, ◌≤◌, false, get_or}
+use mathlib.Core.Option.{some}
+use lib.ListN.{get_elem?}
+use Rattle.std.specs.Mem.Slots.{slots_items, slots_filled, slots_len}
+use Rattle.std.specs.Mem.Slots.Ownership.{Filled}
+use Rattle.version_slots.proofs.closing.take_last.Given as goal
+
+abbrev pub invariant-loop-next : goal.invariant-loop-next
+invariant-loop-next g l = record {
+  near : l.next ≤ slots_len l.board.slots;
+  places : slots_len l.board.slots ≡ slots_len l.fn.board.slots;
+  words : l.board.words ≡ l.fn.board.words;
+  items : slots_items l.board.slots ≡ slots_items l.fn.board.slots;
+  left : Filled (slots_filled l.board.slots) l.next (slots_len l.board.slots);
+  taken : (k : ℕ) → k < l.next → get_or (slots_filled l.board.slots) k false ≡ false;
+  last : l.at < l.next → get_elem? (slots_items l.fn.board.slots) l.at ≡ some l.last;
+}
+
+abbrev pub decreases-loop-next : goal.decreases-loop-next
+decreases-loop-next g l = slots_len l.board.slots - l.next
