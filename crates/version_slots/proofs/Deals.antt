@@ -3,7 +3,7 @@ use Rattle.std.proofs.Common.{◌≡◌, ℕ, zero, suc, ◌+◌, ◌-◌, ◌<�
 use Rattle.std.specs.Prelude.{All}
 use Rattle.std.proofs.lemmas.List.Elements.{All-append, All-take, All-drop}
 use mathlib.Core.List.{map-append}
-use Rattle.version_slots.specs.Versions.{counting}
+use Rattle.version_slots.specs.Views.{counting}
 
 -- of the numbers that are left to give away, the first is given away
 pub counting_step : (number count : ℕ) → number < count → counting (number + 1) (count - number) ≡ (number + 1) ∷ counting (number + 1 + 1) (count - (number + 1))

@@ -4,7 +4,7 @@ use mathlib.Core.Option.{some, some-injective, some-ne-none}
 use lib.ListN.{get_elem?}
 use Rattle.atomic_table.proofs.Lists.{at_longer}
 use Rattle.version_slots.specs.declared.view.View.{View}
-use Rattle.version_slots.specs.Versions.{joined, old}
+use Rattle.version_slots.specs.Views.{joined, old}
 use Rattle.version_slots.specs.Cells.{AreIn, olds_of}
 use Rattle.version_slots.proofs.Shares.{at_middle}
 

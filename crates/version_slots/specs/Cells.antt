@@ -7,7 +7,8 @@ use Rattle.version_slots.specs.declared.view.Old.{Old}
 use Rattle.version_slots.specs.declared.view.Hold.TheVariants.{Empty}
 use Rattle.version_slots.specs.declared.view.View.{View}
 use Rattle.version_slots.specs.declared.tokens.Front.{Front}
-use Rattle.version_slots.specs.Versions.{EndsWith, StartsWith, lines_of, first_line, first_view, newcomer, counting, old}
+use Rattle.version_slots.specs.Histories.{EndsWith, StartsWith, lines_of, first_line}
+use Rattle.version_slots.specs.Views.{first_view, newcomer, counting, old}
 
 module _ {A : Type 0} where
   -- a pass that has seen the first version, and has done nothing

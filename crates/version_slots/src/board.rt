@@ -1,6 +1,7 @@
 //! The table of a cell is laid out, and its passes are dealt.
 ghost use Rattle.std.specs.Prelude.{◌≡◌, ℕ, ◌+◌, ◌*◌, ◌<◌, ◌≤◌, IfOk, [], ◌++◌, length, map, replicate, vec_len, vec_capacity, All, Some, None};
-ghost use Rattle.version_slots.specs.Versions.{AllAre, first_view};
+ghost use Rattle.version_slots.specs.Views.{first_view};
+ghost use Rattle.version_slots.specs.Steps.{AllAre};
 ghost use Rattle.version_slots.specs.Cells.{new_views};
 
 use crate::cell::Board;

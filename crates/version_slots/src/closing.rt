@@ -3,7 +3,7 @@ ghost use Rattle.std.specs.Prelude.{◌≡◌, ℕ, ◌+◌, ◌*◌, ◌<◌, �
 ghost use Rattle.std.specs.Mem.Slots.{slots_items, slots_len, IsFull};
 ghost use mathlib.Core.Option.{some};
 ghost use lib.ListN.{get_elem?};
-ghost use Rattle.version_slots.specs.Versions.{head_word};
+ghost use Rattle.version_slots.specs.Words.{head_word};
 ghost use Rattle.version_slots.specs.Cells.{IsIdle, AreIn, olds_of};
 
 use crate::payload::Payload;

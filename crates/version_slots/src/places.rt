@@ -1,6 +1,6 @@
 //! The places of a slot that a seat has in hand, one for each pass.
 ghost use Rattle.std.specs.Prelude.{◌≡◌, ℕ, ◌+◌, ◌-◌, ◌*◌, ◌^◌, ◌<◌, ◌≤◌, IfOk, [], ◌∷◌, ◌++◌, map, length, Some, None};
-ghost use Rattle.version_slots.specs.Versions.{AllAre, Behind, row_on};
+ghost use Rattle.version_slots.specs.Steps.{AllAre, Behind, row_on};
 
 use crate::payload::Payload;
 use crate::rule::{Place, Top};

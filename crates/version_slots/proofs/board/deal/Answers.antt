@@ -4,7 +4,8 @@ use Rattle.std.proofs.lemmas.List.Elements.{All-push}
 use Rattle.atomic_table.specs.Table.{State, Splits}
 use Rattle.version_slots.specs.declared.view.View.{View}
 use Rattle.version_slots.specs.declared.tokens.Pass.{Pass}
-use Rattle.version_slots.specs.Versions.{Sound, counting, dealing, dealt, head_or, first_view, newcomer}
+use Rattle.version_slots.specs.Views.{counting, dealing, dealt, head_or, first_view, newcomer}
+use Rattle.version_slots.specs.Rule.{Sound}
 use Rattle.version_slots.specs.Cells.{new_view}
 use Rattle.version_slots.proofs.Deals.{counting_step, mapped_next, all_turned}
 use Rattle.version_slots.proofs.Shares.{deals}
@@ -45,7 +46,7 @@ loop-number-preserved g c = let V : Type 0 = View g.row.P-Plain.Denot in let B :
       many = omega arith;
       room = omega arith;
       table = c.split_seat-place.ensures.0 ∙ inv.table;
-      seat = c.split_seat-place.ensures.2 ∙ (ap (λ m. (dealing m.0, m.1)) inv.seat ∙ ap (λ (l : List ℕ). (record (first_view c.args.count x) { spare = Rattle.version_slots.specs.Versions.tail l }, [])) step);
+      seat = c.split_seat-place.ensures.2 ∙ (ap (λ m. (dealing m.0, m.1)) inv.seat ∙ ap (λ (l : List ℕ). (record (first_view c.args.count x) { spare = Rattle.version_slots.specs.Views.tail l }, [])) step);
       views = ap (map (λ (p : B). p.place.me.0)) items ∙ mapped_next (λ (p : B). p.place.me.0) (new_view c.args.count x) c.loop-number.passes.items c.of.result number (omega arith) inv.views me;
       tables = subst (All (λ (p : B). p.place.table_id ≡ c.args.top.now.table_id)) (sym items)
           (All-push (λ (p : B). p.place.table_id ≡ c.args.top.now.table_id) c.loop-number.passes.items c.of.result inv.tables (ap (λ p. p.table_id) c.of.ensures.1 ∙ (c.split_seat-place.ensures.3 ∙ inv.table)));

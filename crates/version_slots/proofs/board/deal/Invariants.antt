@@ -1,6 +1,6 @@
 use Rattle.std.proofs.Common.{◌≡◌, ℕ, ◌+◌, ◌-◌, ◌≤◌, [], map, length, vec_capacity}
 use Rattle.std.specs.Prelude.{All}
-use Rattle.version_slots.specs.Versions.{counting, first_view}
+use Rattle.version_slots.specs.Views.{counting, first_view}
 use Rattle.version_slots.specs.Cells.{new_view}
 use Rattle.version_slots.proofs.board.deal.Given as goal
 

@@ -3,7 +3,7 @@ use Rattle.std.specs.Prelude.{All}
 use Rattle.std.proofs.lemmas.List.Elements.{All-pop}
 use Rattle.version_slots.specs.declared.view.View.{View}
 use Rattle.version_slots.specs.declared.tokens.Pass.{Pass}
-use Rattle.version_slots.specs.Versions.{joined}
+use Rattle.version_slots.specs.Views.{joined}
 use Rattle.version_slots.specs.Tokens.{hand_at}
 use Rattle.version_slots.specs.Cells.{IsIdle, AreIn, olds_of}
 use Rattle.version_slots.proofs.Shares.{joins}

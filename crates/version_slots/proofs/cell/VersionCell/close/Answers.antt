@@ -4,7 +4,8 @@ use mathlib.Core.Option.{some}
 use lib.ListN.{get_elem?}
 use Rattle.version_slots.specs.declared.view.View.{View}
 use Rattle.version_slots.specs.declared.tokens.Pass.{Pass}
-use Rattle.version_slots.specs.Versions.{Closing, head_word}
+use Rattle.version_slots.specs.Words.{head_word}
+use Rattle.version_slots.specs.Closing.{Closing}
 use Rattle.version_slots.specs.Cells.{AreAll}
 use Rattle.version_slots.proofs.Rows.{map_at}
 use Rattle.version_slots.proofs.Closes.{closes, all_names, word_at, ends_as, some_length}
