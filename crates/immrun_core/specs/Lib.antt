@@ -1,0 +1,5 @@
+pub mod Outside
+pub mod Run
+pub mod Status
+pub mod Top
+pub mod WordBuffer
