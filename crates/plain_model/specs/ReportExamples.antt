@@ -1,0 +1,290 @@
+-- Scripts, and the reports of one worker.
+use Rattle.std.specs.Prelude.{◌≡◌, ◌++◌, pos, negsuc, ℕ, List, [], ◌∷◌, map, codes, None, Some}
+use Rattle.std.specs.List.{flat_map}
+use Rattle.imm_base.specs.declared.val.Val.TheVariants.{Int, Text}
+use Rattle.imm_base.specs.declared.comparers.ValEq.TheVariants as equalities
+use Rattle.plain_model.specs.declared.plain.Kind.TheVariants as kinds
+use Rattle.plain_model.specs.declared.plain.Values.TheVariants as values
+use Rattle.plain_model.specs.declared.commands.PlainOp.TheVariants as ops
+use Rattle.plain_model.specs.declared.commands.Transform.TheVariants.{Set, Plus, Max}
+use Rattle.plain_model.specs.declared.commands.Command.TheVariants as commands
+use Rattle.plain_model.specs.declared.report.Script.{Script}
+use Rattle.plain_model.specs.Text.{report_text, end_line}
+use Rattle.plain_model.specs.Alone.{alone}
+
+pub record ReportExample : Type 0 where
+  pub script : Script
+  pub lines : List (List ℕ)
+
+-- the report of one worker has these lines
+abbrev pub IsTold : ReportExample → Type 0
+IsTold e = report_text (alone e.script) ≡ flat_map (λ l. l ++ end_line) e.lines
+
+-- a list that grows, and its value at a read
+abbrev pub adding_and_reading : ReportExample
+adding_and_reading = record {
+  script = record {
+    version = 1;
+    cells = record { name = codes "A"; kind = kinds.List; values = values.List [] } ∷ [];
+    parts =
+        record {
+          commands =
+              commands.Update (codes "A") (ops.Add (Int (pos 5)))
+              ∷ commands.Update (codes "A") (ops.Add (Int (negsuc 6)))
+              ∷ commands.Read (codes "A") (codes "x")
+              ∷ commands.Show (codes "x")
+              ∷ [];
+        }
+        ∷ [];
+  };
+  lines =
+      codes "immrun report 1"
+      ∷ codes "workers 1"
+      ∷ codes "cell A list"
+      ∷ codes "first 0:"
+      ∷ codes "1 1.1 + update add 5 -> true"
+      ∷ codes "2 1.2 + update add -7 -> true"
+      ∷ codes "2 1.3 . read -> 2"
+      ∷ codes "final 2: 5 -7"
+      ∷ codes "worker 1"
+      ∷ codes "1.4 show x -> 2: 5 -7"
+      ∷ codes "end"
+      ∷ [];
+}
+
+-- an update to an equal value installs; one of a key that is absent does not
+abbrev pub equal_value_installs : ReportExample
+equal_value_installs = record {
+  script = record {
+    version = 1;
+    cells = record { name = codes "C"; kind = kinds.Dict equalities.Ordinal; values = values.Pairs ((Text (codes "a"), Int (pos 1)) ∷ []) } ∷ [];
+    parts =
+        record {
+          commands =
+              commands.TryUpdate (codes "C") (Text (codes "a")) (Int (pos 1)) (Int (pos 1))
+              ∷ commands.TryUpdate (codes "C") (Text (codes "b")) (Int (pos 1)) (Int (pos 1))
+              ∷ [];
+        }
+        ∷ [];
+  };
+  lines =
+      codes "immrun report 1"
+      ∷ codes "workers 1"
+      ∷ codes "cell C dict ordinal"
+      ∷ codes "first 1: \"a\"=1"
+      ∷ codes "1 1.1 + tryupdate \"a\" 1 1 -> true"
+      ∷ codes "1 1.2 . tryupdate \"b\" 1 1 -> false"
+      ∷ codes "final 1: \"a\"=1"
+      ∷ codes "worker 1"
+      ∷ codes "end"
+      ∷ [];
+}
+
+-- a queue that is filled and emptied
+abbrev pub queue_emptied : ReportExample
+queue_emptied = record {
+  script = record {
+    version = 1;
+    cells = record { name = codes "Q"; kind = kinds.Queue; values = values.List [] } ∷ [];
+    parts =
+        record {
+          commands =
+              commands.Enqueue (codes "Q") (Int (pos 1))
+              ∷ commands.Enqueue (codes "Q") (Int (pos 2))
+              ∷ commands.Enqueue (codes "Q") (Int (pos 3))
+              ∷ commands.TryDequeue (codes "Q")
+              ∷ commands.TryDequeue (codes "Q")
+              ∷ commands.TryDequeue (codes "Q")
+              ∷ commands.TryDequeue (codes "Q")
+              ∷ [];
+        }
+        ∷ [];
+  };
+  lines =
+      codes "immrun report 1"
+      ∷ codes "workers 1"
+      ∷ codes "cell Q queue"
+      ∷ codes "first 0:"
+      ∷ codes "1 1.1 + enqueue 1 -> true"
+      ∷ codes "2 1.2 + enqueue 2 -> true"
+      ∷ codes "3 1.3 + enqueue 3 -> true"
+      ∷ codes "4 1.4 + trydequeue -> true 1"
+      ∷ codes "5 1.5 + trydequeue -> true 2"
+      ∷ codes "6 1.6 + trydequeue -> true 3"
+      ∷ codes "6 1.7 . trydequeue -> false"
+      ∷ codes "final 0:"
+      ∷ codes "worker 1"
+      ∷ codes "end"
+      ∷ [];
+}
+
+-- a sum stays at the greatest number, and then nothing is installed
+abbrev pub greatest_sum : ReportExample
+greatest_sum = record {
+  script = record {
+    version = 1;
+    cells = record { name = codes "D"; kind = kinds.Dict equalities.Ordinal; values = values.Pairs ((Text (codes "a"), Int (pos 9223372036854775807)) ∷ []) } ∷ [];
+    parts =
+        record {
+          commands =
+              commands.AddOrUpdate (codes "D") (Text (codes "a")) (Int (pos 1)) (Plus (pos 1))
+              ∷ [];
+        }
+        ∷ [];
+  };
+  lines =
+      codes "immrun report 1"
+      ∷ codes "workers 1"
+      ∷ codes "cell D dict ordinal"
+      ∷ codes "first 1: \"a\"=9223372036854775807"
+      ∷ codes "0 1.1 . addorupdate \"a\" 1 plus 1 -> 9223372036854775807"
+      ∷ codes "final 1: \"a\"=9223372036854775807"
+      ∷ codes "worker 1"
+      ∷ codes "end"
+      ∷ [];
+}
+
+-- a publication of too many elements is a line of the worker
+abbrev pub publications : ReportExample
+publications = record {
+  script = record {
+    version = 1;
+    cells = record { name = codes "A"; kind = kinds.List; values = values.List [] } ∷ [];
+    parts =
+        record {
+          commands =
+              commands.New (codes "x") kinds.List (values.List (map Int (pos 1 ∷ pos 2 ∷ []))) None
+              ∷ commands.Publish (codes "A") (codes "x")
+              ∷ commands.New (codes "y") kinds.List (values.Seq (pos 0) 1025) None
+              ∷ commands.Publish (codes "A") (codes "y")
+              ∷ [];
+        }
+        ∷ [];
+  };
+  lines =
+      codes "immrun report 1"
+      ∷ codes "workers 1"
+      ∷ codes "cell A list"
+      ∷ codes "first 0:"
+      ∷ codes "1 1.2 + publish 2: 1 2 -> true"
+      ∷ codes "final 2: 1 2"
+      ∷ codes "worker 1"
+      ∷ codes "1.1 new x list 1 2 -> 2"
+      ∷ codes "1.3 new y list seq 0 1025 -> 1025"
+      ∷ codes "1.4 publish A y -> refused publish 1025"
+      ∷ codes "end"
+      ∷ [];
+}
+
+-- two parts done by one worker
+abbrev pub two_parts : ReportExample
+two_parts = record {
+  script = record {
+    version = 1;
+    cells = record { name = codes "A"; kind = kinds.List; values = values.List [] } ∷ [];
+    parts =
+        record {
+          commands =
+              commands.Update (codes "A") ops.Clear
+              ∷ [];
+        }
+        ∷ record {
+          commands =
+              commands.Update (codes "A") (ops.Add (Int (pos 1)))
+              ∷ [];
+        }
+        ∷ [];
+  };
+  lines =
+      codes "immrun report 1"
+      ∷ codes "workers 1"
+      ∷ codes "cell A list"
+      ∷ codes "first 0:"
+      ∷ codes "0 1.1 . update clear -> false"
+      ∷ codes "1 1.2 + update add 1 -> true"
+      ∷ codes "final 1: 1"
+      ∷ codes "worker 1"
+      ∷ codes "end"
+      ∷ [];
+}
+
+-- the calls of a dictionary that takes no notice of capitals
+abbrev pub dictionary_calls : ReportExample
+dictionary_calls = record {
+  script = record {
+    version = 1;
+    cells = record { name = codes "R"; kind = kinds.Dict equalities.NoCase; values = values.Pairs [] } ∷ [];
+    parts =
+        record {
+          commands =
+              commands.GetOrAdd (codes "R") (Text (codes "svc01")) (Int (pos 0))
+              ∷ commands.AddOrUpdate (codes "R") (Text (codes "svc01")) (Int (pos 1)) (Plus (pos 1))
+              ∷ commands.GetOrAdd (codes "R") (Text (codes "SVC01")) (Int (pos 0))
+              ∷ commands.AddOrUpdate (codes "R") (Text (codes "SVC01")) (Int (pos 1)) (Max (Int (pos 7)))
+              ∷ commands.TryAdd (codes "R") (Text (codes "svc01")) (Int (pos 1))
+              ∷ commands.TryRemove (codes "R") (Text (codes "svc01"))
+              ∷ commands.TryRemove (codes "R") (Text (codes "svc01"))
+              ∷ commands.AddOrUpdate (codes "R") (Text (codes "b")) (Int (pos 1)) (Set (Int (pos 2)))
+              ∷ commands.AddOrUpdate (codes "R") (Text (codes "b")) (Int (pos 1)) (Set (Text (codes "c")))
+              ∷ commands.AddOrUpdate (codes "R") (Text (codes "b")) (Int (pos 1)) (Plus (pos 5))
+              ∷ [];
+        }
+        ∷ [];
+  };
+  lines =
+      codes "immrun report 1"
+      ∷ codes "workers 1"
+      ∷ codes "cell R dict nocase"
+      ∷ codes "first 0:"
+      ∷ codes "1 1.1 + getoradd \"svc01\" 0 -> 0"
+      ∷ codes "2 1.2 + addorupdate \"svc01\" 1 plus 1 -> 1"
+      ∷ codes "2 1.3 . getoradd \"SVC01\" 0 -> 1"
+      ∷ codes "3 1.4 + addorupdate \"SVC01\" 1 max 7 -> 7"
+      ∷ codes "3 1.5 . tryadd \"svc01\" 1 -> false"
+      ∷ codes "4 1.6 + tryremove \"svc01\" -> true 7"
+      ∷ codes "4 1.7 . tryremove \"svc01\" -> false"
+      ∷ codes "5 1.8 + addorupdate \"b\" 1 set 2 -> 1"
+      ∷ codes "6 1.9 + addorupdate \"b\" 1 set \"c\" -> \"c\""
+      ∷ codes "6 1.10 . addorupdate \"b\" 1 plus 5 -> \"c\""
+      ∷ codes "final 1: \"b\"=\"c\""
+      ∷ codes "worker 1"
+      ∷ codes "end"
+      ∷ [];
+}
+
+-- the calls of a stack
+abbrev pub stack_calls : ReportExample
+stack_calls = record {
+  script = record {
+    version = 1;
+    cells = record { name = codes "S"; kind = kinds.Stack; values = values.List (map Int (pos 1 ∷ pos 2 ∷ [])) } ∷ [];
+    parts =
+        record {
+          commands =
+              commands.Push (codes "S") (Int (pos 3))
+              ∷ commands.TryPop (codes "S")
+              ∷ commands.TryPop (codes "S")
+              ∷ commands.Update (codes "S") ops.Pop
+              ∷ commands.TryPop (codes "S")
+              ∷ [];
+        }
+        ∷ [];
+  };
+  lines =
+      codes "immrun report 1"
+      ∷ codes "workers 1"
+      ∷ codes "cell S stack"
+      ∷ codes "first 2: 2 1"
+      ∷ codes "1 1.1 + push 3 -> true"
+      ∷ codes "2 1.2 + trypop -> true 3"
+      ∷ codes "3 1.3 + trypop -> true 2"
+      ∷ codes "4 1.4 + update pop -> true"
+      ∷ codes "4 1.5 . trypop -> false"
+      ∷ codes "final 0:"
+      ∷ codes "worker 1"
+      ∷ codes "end"
+      ∷ [];
+}
+
+abbrev pub report_examples : List ReportExample
+report_examples = adding_and_reading ∷ equal_value_installs ∷ queue_emptied ∷ greatest_sum ∷ publications ∷ two_parts ∷ dictionary_calls ∷ stack_calls ∷ []
