@@ -9,6 +9,7 @@ use Rattle.plain_model.specs.MapExamples.{map_examples}
 use Rattle.plain_model.specs.BuilderExamples.{builder_examples}
 use Rattle.plain_model.specs.FrozenExamples.{frozen_examples}
 use Rattle.plain_model.specs.WalkExamples.{walk_examples}
+use Rattle.plain_model.specs.LimitExamples.{LimitExamples}
 use Rattle.plain_model.specs.ReportExamples.{IsTold, report_examples}
 
 pub lists_hold : AllByRecursion Holds list_examples
@@ -38,3 +39,32 @@ walks_hold = (refl, (refl, (refl, (refl, tt))))
 pub reports_hold : AllByRecursion IsTold report_examples
 unfolding digits
 reports_hold = (refl, (refl, (refl, (refl, (refl, (refl, (refl, (refl, tt))))))))
+
+pub limits_hold : LimitExamples
+unfolding digits
+limits_hold = record {
+  array_add = refl;
+  insert_far = refl;
+  insert_range_far = refl;
+  insert_range = refl;
+  add_nothing = refl;
+  push = refl;
+  enqueue = refl;
+  set_add_present = refl;
+  set_add = refl;
+  set_union = refl;
+  set_exchange = refl;
+  set_symmetric = refl;
+  add_other = refl;
+  add_pair = refl;
+  add_pairs_other = refl;
+  add_pairs = refl;
+  set_pair = refl;
+  set_pairs = refl;
+  get_or_add = refl;
+  add_or_update = refl;
+  add_or_update_absent = refl;
+  try_add_present = refl;
+  try_add = refl;
+  cell_push = refl;
+}

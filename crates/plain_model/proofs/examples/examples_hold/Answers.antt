@@ -1,0 +1,16 @@
+use Rattle.plain_model.proofs.ExamplesHold.{lists_hold, sets_hold, maps_hold, builders_hold, frozen_hold, walks_hold, reports_hold, limits_hold}
+use Rattle.plain_model.proofs.LawfulExamples.{lawful_hold}
+use Rattle.plain_model.proofs.examples.examples_hold.Goals as goal
+
+pub returns : goal.returns
+returns c = record {
+  lists = lists_hold;
+  sets = sets_hold;
+  maps = maps_hold;
+  builders = builders_hold;
+  frozen = frozen_hold;
+  walks = walks_hold;
+  reports = reports_hold;
+  lawful = lawful_hold;
+  limits = limits_hold;
+}

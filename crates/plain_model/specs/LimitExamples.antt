@@ -1,0 +1,60 @@
+-- Collections that are full: what is refused, in which order, and what is not.
+use Rattle.std.specs.Prelude.{◌≡◌, ◌++◌, ℕ, pos, negsuc, List, [], ◌∷◌, codes, is_some}
+use Rattle.imm_base.specs.declared.TheConstants.{LIMIT}
+use Rattle.imm_base.specs.declared.val.Val.TheVariants.{Int}
+use Rattle.imm_base.specs.declared.comparers.ValOrder.TheVariants as orders
+use Rattle.imm_base.specs.declared.comparers.ValEq.TheVariants as equalities
+use Rattle.plain_model.specs.declared.plain.Kind.{Kind}
+use Rattle.plain_model.specs.declared.plain.Kind.TheVariants as kinds
+use Rattle.plain_model.specs.declared.plain.Values.TheVariants as values
+use Rattle.plain_model.specs.declared.plain.Plain.{Plain}
+use Rattle.plain_model.specs.declared.commands.PlainOp.{PlainOp}
+use Rattle.plain_model.specs.declared.commands.PlainOp.TheVariants as ops
+use Rattle.plain_model.specs.declared.commands.PlainCall.{PlainCall}
+use Rattle.plain_model.specs.declared.commands.PlainCall.TheVariants as calls
+use Rattle.plain_model.specs.declared.commands.Transform.TheVariants.{Plus}
+use Rattle.plain_model.specs.Plain.{elements, pairs, plain}
+use Rattle.plain_model.specs.Cell.{cell}
+use Rattle.plain_model.specs.Locals.{change_answer}
+use Rattle.plain_model.specs.Text.{spaced, answer_words, reply_words, mark}
+
+-- the numbers from 0 to one less than the limit
+abbrev pub full : Kind → Plain
+full kind = record { kind = kind; values = values.List (elements (values.Seq (pos 0) LIMIT)) }
+
+abbrev pub full_pairs : Kind → Plain
+full_pairs kind = record { kind = kind; values = values.Pairs (pairs (values.Seq (pos 0) LIMIT)) }
+
+-- what an operation answers
+abbrev pub gives : PlainOp → Plain → List ℕ
+gives op p = spaced (answer_words (change_answer (plain op p)))
+
+-- what a call replies, with the mark whether it installs
+abbrev pub replies : PlainCall → Plain → List ℕ
+replies call p = mark (is_some (cell call p).installs) ++ 32 ∷ spaced (reply_words (cell call p).reply)
+
+pub record LimitExamples : Type 0 where
+  pub array_add : gives (ops.Add (Int (pos 1))) (full kinds.Array) ≡ codes "refused toolarge 16384"
+  pub insert_far : gives (ops.Insert 16385 (Int (pos 1))) (full kinds.List) ≡ codes "refused outofrange 16385 16384"
+  pub insert_range_far : gives (ops.InsertRange 16385 (values.Seq (pos 0) 1)) (full kinds.List) ≡ codes "refused outofrange 16385 16384"
+  pub insert_range : gives (ops.InsertRange 0 (values.Seq (pos 0) 1)) (full kinds.List) ≡ codes "refused toolarge 16384"
+  pub add_nothing : gives (ops.AddRange (values.List [])) (full kinds.List) ≡ codes "same"
+  pub push : gives (ops.Push (Int (pos 1))) (full kinds.Stack) ≡ codes "refused toolarge 16384"
+  pub enqueue : gives (ops.Enqueue (Int (pos 1))) (full kinds.Queue) ≡ codes "refused toolarge 16384"
+  pub set_add_present : gives (ops.Add (Int (pos 5))) (full (kinds.SSet orders.Ordinal)) ≡ codes "same"
+  pub set_add : gives (ops.Add (Int (negsuc 0))) (full (kinds.HSet equalities.NoCase)) ≡ codes "refused toolarge 16384"
+  pub set_union : gives (ops.Union (values.Seq (negsuc 0) 2)) (full (kinds.SSet orders.Ordinal)) ≡ codes "refused toolarge 16384"
+  pub set_exchange : gives (ops.SymExcept (values.Seq (negsuc 0) 2)) (full (kinds.SSet orders.Ordinal)) ≡ codes "new"
+  pub set_symmetric : gives (ops.SymExcept (values.Seq (negsuc 0) 1)) (full (kinds.HSet equalities.Ordinal)) ≡ codes "refused toolarge 16384"
+  pub add_other : gives (ops.AddPair (Int (pos 5)) (Int (pos 6))) (full_pairs (kinds.Dict equalities.Ordinal)) ≡ codes "refused keyexists 5"
+  pub add_pair : gives (ops.AddPair (Int (negsuc 0)) (Int (pos 6))) (full_pairs (kinds.Dict equalities.Ordinal)) ≡ codes "refused toolarge 16384"
+  pub add_pairs_other : gives (ops.AddPairs (values.Pairs ((Int (negsuc 0), Int (pos 0)) ∷ (Int (pos 5), Int (pos 6)) ∷ []))) (full_pairs (kinds.SMap orders.Ordinal)) ≡ codes "refused keyexists 5"
+  pub add_pairs : gives (ops.AddPairs (values.Seq (negsuc 0) 2)) (full_pairs (kinds.SMap orders.Ordinal)) ≡ codes "refused toolarge 16384"
+  pub set_pair : gives (ops.SetPair (Int (pos 5)) (Int (pos 6))) (full_pairs (kinds.SMap orders.Ordinal)) ≡ codes "new"
+  pub set_pairs : gives (ops.SetPairs (values.Seq (negsuc 0) 2)) (full_pairs (kinds.Dict equalities.Ordinal)) ≡ codes "refused toolarge 16384"
+  pub get_or_add : replies (calls.GetOrAdd (Int (negsuc 0)) (Int (pos 1))) (full_pairs (kinds.Dict equalities.Ordinal)) ≡ codes ". refused toolarge 16384"
+  pub add_or_update : replies (calls.AddOrUpdate (Int (pos 5)) (Int (pos 1)) (Plus (pos 2))) (full_pairs (kinds.Dict equalities.Ordinal)) ≡ codes "+ 7"
+  pub add_or_update_absent : replies (calls.AddOrUpdate (Int (negsuc 0)) (Int (pos 1)) (Plus (pos 2))) (full_pairs (kinds.Dict equalities.Ordinal)) ≡ codes ". refused toolarge 16384"
+  pub try_add_present : replies (calls.TryAdd (Int (pos 5)) (Int (pos 1))) (full_pairs (kinds.Dict equalities.Ordinal)) ≡ codes ". false"
+  pub try_add : replies (calls.TryAdd (Int (negsuc 0)) (Int (pos 1))) (full_pairs (kinds.Dict equalities.Ordinal)) ≡ codes ". refused toolarge 16384"
+  pub cell_push : replies (calls.Push (Int (pos 1))) (full kinds.Stack) ≡ codes ". refused toolarge 16384"
