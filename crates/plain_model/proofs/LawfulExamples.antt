@@ -1,8 +1,7 @@
 -- The reports of the examples are lawful.
-use Rattle.std.specs.Prelude.{◌≡◌, refl, ℕ, zero, suc, ◌<◌, ◌+◌, List, [], ◌∷◌, slice_get}
-use Rattle.std.specs.List.{AllByRecursion}
+use Rattle.std.specs.Prelude.{refl, ℕ, zero, suc, ◌<◌, ◌+◌, [], ◌∷◌, slice_get}
 use Rattle.std.specs.Fmt.{digits}
-use Rattle.std.proofs.Common.{arith, true≢false, inr}
+use Rattle.std.proofs.Common.{arith, true≢false}
 use Rattle.plain_model.specs.Lawful.{Lawful, Worked, parts_of}
 use Rattle.plain_model.specs.Work.{work_from}
 use Rattle.plain_model.specs.Alone.{alone}

@@ -1,5 +1,5 @@
 -- The report of a script that one worker does alone, command by command.
-use Rattle.std.specs.Prelude.{ℕ, ◌+◌, List, [], ◌∷◌, ◌++◌, length, map, find, fold, Option, Some, None, is_some, option_map, Result, Ok, Err, if◌then◌else◌, nat_lt, bytes_eq}
+use Rattle.std.specs.Prelude.{ℕ, ◌+◌, List, [], ◌∷◌, ◌++◌, map, find, fold, Option, Some, None, is_some, option_map, Result, Ok, Err, if◌then◌else◌, nat_lt, bytes_eq}
 use Rattle.plain_model.specs.declared.plain.Plain.{Plain}
 use Rattle.plain_model.specs.declared.commands.PlainCall.{PlainCall}
 use Rattle.plain_model.specs.declared.commands.PlainCall.TheVariants as calls

@@ -1,5 +1,5 @@
 -- Scripts, and the reports of one worker.
-use Rattle.std.specs.Prelude.{◌≡◌, ◌++◌, pos, negsuc, ℕ, List, [], ◌∷◌, map, codes, None, Some}
+use Rattle.std.specs.Prelude.{◌≡◌, ◌++◌, pos, negsuc, ℕ, List, [], ◌∷◌, map, codes, None}
 use Rattle.std.specs.List.{flat_map}
 use Rattle.imm_base.specs.declared.val.Val.TheVariants.{Int, Text}
 use Rattle.imm_base.specs.declared.comparers.ValEq.TheVariants as equalities

@@ -1,5 +1,4 @@
-use Rattle.std.proofs.Common.{◌≡◌, ◌+◌, arith, rules, string_bytes, ◌++◌, get_or, ◌∙◌}
-use Rattle.plain_model.specs.Text.{worker_text}
+use Rattle.std.proofs.Common.{arith, rules, string_bytes}
 use Rattle.plain_model.proofs.ReportSteps.{workers_step}
 use Rattle.plain_model.proofs.text.report.put_workers.Goals as goal
 
