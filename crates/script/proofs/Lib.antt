@@ -1,6 +1,6 @@
 mod Cut
 mod Digits
-mod Lined
-mod Loop
+mod FirstLines
+mod LineByLine
 mod Names
-mod Runs
+pub mod Runs

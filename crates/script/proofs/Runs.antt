@@ -19,8 +19,11 @@ use Rattle.plain_model.specs.declared.report.Script.{Script}
 use Rattle.script.specs.declared.fault.ParseFault.{ParseFault}
 use Rattle.script.specs.Printing.{printed}
 use Rattle.script.specs.FirstForm.{is_list, is_nothing, adds_integer, is_built, is_empty_list, is_part_on, are_one_each, is_first_form, first_form}
+use Rattle.script.specs.Grammar.{read_script}
+use Rattle.script.specs.Reading.{read_text}
 use Rattle.script.specs.Runnable.{IsBuilt, IsRunnable}
 
+-- what the tests of the first form say
 the_list : (kind : Kind) → is_list kind ≡ true → kind ≡ kinds.List
 the_list kinds.List e = refl
 the_list _ e = absurd cc
@@ -49,6 +52,7 @@ all_built : (cell : List ℕ) (cs : List Command) → list_all (is_built cell) c
 all_built cell [] e = tt
 all_built cell (c ∷ cs) e = let p = and_parts _ _ e in (IsBuilt-from_test cell c p.0, all_built cell cs p.1)
 
+-- a script that passes the test of the first form can be run
 runs : (version : ℕ) (cells : List CellDecl) (parts : List Part) → are_one_each cells parts ≡ true → IsRunnable (record { version = version; cells = cells; parts = parts })
 runs version (cell ∷ []) (part ∷ []) e =
     let p = and_parts (is_empty_list cell) (is_part_on cell.name part) e in
@@ -66,14 +70,18 @@ runs version (cell ∷ []) (part ∷ []) e =
     }
 runs version _ _ e = absurd cc
 
--- a script that passes the test, and no other, comes of this reading
+-- where a choice gave a script, its test held
 formed : (t : Bool) (bytes : List ℕ) (read s : Script) (fault : ParseFault) → cond t (Ok read) (Err fault) ≡ Ok s → (t ≡ true) × (read ≡ s)
 formed true bytes read s fault e = (refl, cc)
 formed false bytes read s fault e = absurd cc
 
-pub IsRunnable-first_form : (bytes : List ℕ) (read : Result Script ParseFault) (s : Script) → first_form bytes read ≡ Ok s → IsRunnable s
+IsRunnable-first_form : (bytes : List ℕ) (read : Result Script ParseFault) (s : Script) → first_form bytes read ≡ Ok s → IsRunnable s
 IsRunnable-first_form bytes (Ok read) s e =
     let f = formed _ bytes read s _ e in
     let p = and_parts (is_first_form read) (bytes_eq (printed read) bytes) f.0 in
     rw (← f.1) (runs read.version read.cells read.parts p.0)
 IsRunnable-first_form bytes (Err fault) s e = absurd cc
+
+-- each script that bytes are can be run
+pub IsRunnable-read_script : (bytes : List ℕ) (s : Script) → read_script bytes ≡ Ok s → IsRunnable s
+IsRunnable-read_script bytes s e = IsRunnable-first_form bytes (read_text bytes) s e

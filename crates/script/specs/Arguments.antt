@@ -66,7 +66,7 @@ cell_name = name is_capital
 abbrev pub local_name : List ℕ → Result (List ℕ) Code
 local_name = name is_small
 
--- ---- tables: a word that is not in its table is not built yet
+-- ---- tables: a word that stands in none is unknown
 
 abbrev pub kind : List ℕ → Result Kind Code
 kind = entry (

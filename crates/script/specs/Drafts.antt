@@ -26,7 +26,7 @@ abbrev pub local_kind : List LocalName → List ℕ → Option Kind
 local_kind [] name = None
 local_kind (local ∷ names) name = if bytes_eq local.name name then Some local.kind else local_kind names name
 
--- ---- what a command speaks of: a row for each command that is built
+-- ---- what a command speaks of: a row for each command that a line can say
 
 -- the cell that it is on
 abbrev pub cell_of : Command → Option (List ℕ)
@@ -39,7 +39,7 @@ abbrev pub binds : List CellDecl → Command → Option LocalName
 binds cells (commands.Read cell name) = option_map (λ k. record { name = name; kind = k }) (cell_kind cells cell)
 binds cells _ = None
 
--- ---- what goes with which kind: a row for each kind that is built
+-- ---- what goes with which kind: a row for each kind that a cell can have
 
 abbrev pub takes : Kind → PlainOp → Bool
 takes kinds.List (ops.Add v) = true

@@ -1,4 +1,4 @@
--- What is run at present: canonical texts of one list cell and one part.
+-- Scripts of one list cell and one part, each in its canonical text.
 use Rattle.std.specs.Prelude.{ℕ, List, [], ◌∷◌, length, Bool, true, false, ◌&&◌, nat_le, Result, Ok, Err, if◌then◌else◌}
 use Rattle.std.specs.List.{list_all}
 use Rattle.std.specs.Str.{bytes_eq}

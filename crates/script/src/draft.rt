@@ -252,7 +252,8 @@ impl Draft {
         line: &[u8],
         words: &[&[u8]],
     ) -> Result<Result<(), Code>, Memory>
-        ensures { IfOk result (λ step. IsStep self.new step (significant self.old is_last line.now (seen words.now))) }
+        ensures { IfOk result (λ step.
+            IsStep self.new step (significant self.old is_last line.now (seen words.now))) }
     {
         if !self.begun {
             return Ok(self.begin(words));

@@ -1,4 +1,4 @@
-//! What is run at present: canonical texts of one list cell and one part.
+//! Scripts of one list cell and one part, each in its canonical text.
 
 ghost use Rattle.std.specs.Prelude.{◌≡◌, IfOk};
 ghost use Rattle.std.specs.List.{list_all};

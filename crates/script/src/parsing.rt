@@ -10,7 +10,8 @@ use crate::reading::read_text;
 use plain_model::Script;
 use std::alloc::Global;
 
-/// The script that the bytes are. `Fault` names the least refused line and the least code on it; at present every text that is not a script is refused as a whole.
+/// The script that the bytes are. `Fault` comes exactly where they are none, and refuses the text as
+/// a whole: line 0, code 0.
 pub fn parse(alloc: Global, bytes: &[u8]) -> Result<Script, ParseError>
     requires { length bytes.now ≤ 1048576 }
     ensures exact { Answers result (read_script bytes.now) }

@@ -10,7 +10,8 @@ use plain_model::{CellDecl, Command, Part, Script, put_command, put_decl};
 use std::alloc::{AllocError, Global};
 
 fn put_cell_line(text: &mut String, cell: &CellDecl) -> Result<(), AllocError>
-    ensures { OnOk result (string_bytes text.new ≡ string_bytes text.old ++ line (decl_words cell.now)) }
+    ensures { OnOk result (string_bytes text.new
+        ≡ string_bytes text.old ++ line (decl_words cell.now)) }
 {
     put_decl(text, cell)?;
     text.push('\n')?;
@@ -18,7 +19,8 @@ fn put_cell_line(text: &mut String, cell: &CellDecl) -> Result<(), AllocError>
 }
 
 fn put_cells(text: &mut String, cells: &[CellDecl]) -> Result<(), AllocError>
-    ensures { OnOk result (string_bytes text.new ≡ string_bytes text.old ++ flat_map (λ c. line (decl_words c)) cells.now) }
+    ensures { OnOk result (string_bytes text.new
+        ≡ string_bytes text.old ++ flat_map (λ c. line (decl_words c)) cells.now) }
 {
     for cell in cells {
         put_cell_line(text, cell)?;
@@ -27,7 +29,8 @@ fn put_cells(text: &mut String, cells: &[CellDecl]) -> Result<(), AllocError>
 }
 
 fn put_command_line(text: &mut String, command: &Command) -> Result<(), AllocError>
-    ensures { OnOk result (string_bytes text.new ≡ string_bytes text.old ++ line (command_words command.now)) }
+    ensures { OnOk result (string_bytes text.new
+        ≡ string_bytes text.old ++ line (command_words command.now)) }
 {
     put_command(text, command)?;
     text.push('\n')?;
@@ -35,7 +38,8 @@ fn put_command_line(text: &mut String, command: &Command) -> Result<(), AllocErr
 }
 
 fn put_commands(text: &mut String, commands: &[Command]) -> Result<(), AllocError>
-    ensures { OnOk result (string_bytes text.new ≡ string_bytes text.old ++ flat_map (λ c. line (command_words c)) commands.now) }
+    ensures { OnOk result (string_bytes text.new
+        ≡ string_bytes text.old ++ flat_map (λ c. line (command_words c)) commands.now) }
 {
     for command in commands {
         put_command_line(text, command)?;
@@ -53,7 +57,8 @@ fn put_part(text: &mut String, part: &Part) -> Result<(), AllocError>
 }
 
 fn put_parts(text: &mut String, parts: &[Part]) -> Result<(), AllocError>
-    ensures { OnOk result (string_bytes text.new ≡ string_bytes text.old ++ flat_map part_text parts.now) }
+    ensures { OnOk result (string_bytes text.new
+        ≡ string_bytes text.old ++ flat_map part_text parts.now) }
 {
     for part in parts {
         put_part(text, part)?;
@@ -67,7 +72,8 @@ fn put_header(text: &mut String, version: u32) -> Result<(), AllocError>
     write!(text, "immrun {version}\n")
 }
 
-/// The canonical text of a script: single spaces, a line feed after every line, no comments and no empty lines.
+/// The canonical text of a script: the header, the cells and the parts in order, one space between
+/// words, a line feed after each line, no comments and no empty lines.
 pub fn print(alloc: Global, script: &Script) -> Result<Vec<u8>, Memory>
     ensures { IfOk result (λ text. text.items ≡ printed script.now) }
 {

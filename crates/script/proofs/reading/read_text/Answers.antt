@@ -1,7 +1,7 @@
 use Rattle.std.proofs.Common.{◌≡◌, ◌<◌, ◌+◌, length, sym, ◌∙◌, arith}
 use Rattle.std.proofs.lemmas.Bool.{eqb-true, eqb-false}
 use Rattle.script.specs.Reading.{read_text}
-use Rattle.script.proofs.Loop.{reading-fails, reading-goes, reading-ends, lines_again}
+use Rattle.script.proofs.LineByLine.{reading-fails, reading-goes, reading-ends, lines_again}
 use Rattle.script.proofs.reading.read_text.Goals as goal
 
 pub returns-in-Err : goal.returns-in-Err

@@ -11,7 +11,7 @@ use Rattle.script.specs.declared.draft.Draft.{Draft}
 use Rattle.script.specs.Lines.{script_lines}
 use Rattle.script.specs.Judging.{◌>>=◌, rank}
 use Rattle.script.specs.Reading.{judged, at_line, read_lines, script_of}
-use Rattle.script.proofs.Lined.{ends_line, first_of_lines_at, only_line, no_feed}
+use Rattle.script.proofs.FirstLines.{ends_line, first_of_lines_at, only_line, no_feed}
 
 -- every text has a line
 pub a_line : (bytes : List ℕ) → 0 < length (script_lines bytes)
@@ -26,27 +26,32 @@ pub last_line : (others : List ℕ) → (length (lines others) == 0) ≡ (length
 last_line [] = refl
 last_line (b ∷ bs) = rw (ne_eqb (length (lines (b ∷ bs))) 0 (λ e. omega (arith, a_line (b ∷ bs), e)), ne_eqb (length (b ∷ bs)) 0 (λ e. omega (arith, e))) refl
 
+-- where something follows a line, it is a text of its own
 pub lines_again : (others : List ℕ) → 0 < length others → lines others ≡ script_lines others
 lines_again [] h = absurd (omega arith)
 lines_again (b ∷ bs) h = refl
 
+-- the first line is judged, and then the others
 pub one_line : (draft : Draft) (n : ℕ) (bytes line others : List ℕ) → script_lines bytes ≡ line ∷ lines others
     → read_lines draft n (script_lines bytes) ≡ (at_line n (judged draft (length others == 0) line) >>= (λ next. read_lines next (n + 1) (lines others)))
 unfolding read_lines
 one_line draft n bytes line others e = rw (e, last_line others) refl
 
+-- `all` is the reading of the whole text: it fails with a line that is refused,
 pub reading-fails : (draft : Draft) (n : ℕ) (bytes line others : List ℕ) (is_last : Bool) (code : Code) (all : Result Script ParseFault) → script_lines bytes ≡ line ∷ lines others → is_last ≡ (length others == 0)
     → judged draft is_last line ≡ Err code → read_lines draft n (script_lines bytes) ≡ all → all ≡ Err (record { line = n; code = rank code })
 reading-fails draft n bytes line others is_last code all split last refused so_far =
     let one : read_lines draft n (script_lines bytes) ≡ Err (record { line = n; code = rank code }) = one_line draft n bytes line others split ∙ rw (← last, refused) refl in
     sym so_far ∙ one
 
+-- goes on after a line that is taken,
 pub reading-goes : (draft next : Draft) (n : ℕ) (bytes line others : List ℕ) (is_last : Bool) (all : Result Script ParseFault) → script_lines bytes ≡ line ∷ lines others → is_last ≡ (length others == 0)
     → judged draft is_last line ≡ Ok next → read_lines draft n (script_lines bytes) ≡ all → read_lines next (n + 1) (lines others) ≡ all
 reading-goes draft next n bytes line others is_last all split last taken so_far =
     let one : read_lines draft n (script_lines bytes) ≡ read_lines next (n + 1) (lines others) = one_line draft n bytes line others split ∙ rw (← last, taken) refl in
     sym one ∙ so_far
 
+-- and ends where nothing is left
 pub reading-ends : (next : Draft) (n : ℕ) (others : List ℕ) (all : Result Script ParseFault) → length others ≡ 0 → read_lines next n (lines others) ≡ all → all ≡ Ok (script_of next)
 unfolding read_lines
 reading-ends next n [] all e so_far = sym so_far
