@@ -10,19 +10,18 @@ use Rattle.plain_model.specs.BuilderExamples.{builder_examples}
 use Rattle.plain_model.specs.FrozenExamples.{frozen_examples}
 use Rattle.plain_model.specs.WalkExamples.{walk_examples}
 use Rattle.plain_model.specs.LimitExamples.{LimitExamples}
-use Rattle.plain_model.specs.ReportExamples.{IsTold, report_examples}
 
 pub lists_hold : AllByRecursion Holds list_examples
 unfolding digits
-lists_hold = (refl, (refl, (refl, (refl, (refl, (refl, (refl, tt)))))))
+lists_hold = (refl, (refl, (refl, (refl, (refl, (refl, (refl, (refl, tt))))))))
 
 pub sets_hold : AllByRecursion Holds set_examples
 unfolding digits
-sets_hold = (refl, (refl, (refl, (refl, tt))))
+sets_hold = (refl, (refl, (refl, (refl, (refl, tt)))))
 
 pub maps_hold : AllByRecursion Holds map_examples
 unfolding digits
-maps_hold = (refl, (refl, (refl, (refl, tt))))
+maps_hold = (refl, (refl, (refl, (refl, (refl, tt)))))
 
 pub builders_hold : AllByRecursion Holds builder_examples
 unfolding digits
@@ -34,11 +33,7 @@ frozen_hold = (refl, (refl, tt))
 
 pub walks_hold : AllByRecursion Holds walk_examples
 unfolding digits
-walks_hold = (refl, (refl, (refl, (refl, tt))))
-
-pub reports_hold : AllByRecursion IsTold report_examples
-unfolding digits
-reports_hold = (refl, (refl, (refl, (refl, (refl, (refl, (refl, (refl, tt))))))))
+walks_hold = (refl, (refl, (refl, (refl, (refl, tt)))))
 
 pub limits_hold : LimitExamples
 unfolding digits
@@ -67,4 +62,13 @@ limits_hold = record {
   try_add_present = refl;
   try_add = refl;
   cell_push = refl;
+  cell_enqueue = refl;
+  update_refused = refl;
+  updated_spelling = refl;
+  updated_equal = refl;
+  exchanged_spelling = refl;
+  not_exchanged = refl;
+  added = refl;
+  added_reply = refl;
+  capacity = refl;
 }

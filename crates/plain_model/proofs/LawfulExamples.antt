@@ -1,12 +1,22 @@
 -- The reports of the examples are lawful.
-use Rattle.std.specs.Prelude.{refl, ℕ, zero, suc, ◌<◌, ◌+◌, [], ◌∷◌, slice_get}
+use Rattle.std.specs.Prelude.{pos, map, length, ◌≡◌, refl, ℕ, zero, suc, ◌+◌, ◌<◌, ◌≤◌, ◌⊎◌, [], ◌∷◌, slice_get}
+use Rattle.std.specs.List.{AllByRecursion}
 use Rattle.std.specs.Fmt.{digits}
-use Rattle.std.proofs.Common.{arith, true≢false}
-use Rattle.plain_model.specs.Lawful.{Lawful, Worked, parts_of}
+use Rattle.std.proofs.Common.{arith, true≢false, inl, inr}
+use Rattle.plain_model.specs.Lawful.{Lawful, Worked, parts_of, IsRun}
+use Rattle.plain_model.specs.History.{InOrder}
+use Rattle.plain_model.specs.declared.history.Reply.TheVariants as replies
+use Rattle.imm_base.specs.declared.val.Val.TheVariants.{Int}
+use Rattle.imm_base.specs.declared.comparers.ValEq.TheVariants as equalities
+use Rattle.plain_model.specs.Plain.{pairs}
+use Rattle.plain_model.specs.Frozen.{numbers_from, frozen_pairs}
 use Rattle.plain_model.specs.Work.{work_from}
-use Rattle.plain_model.specs.Alone.{alone}
-use Rattle.plain_model.specs.ReportExamples.{adding_and_reading, equal_value_installs, publications, two_parts}
-use Rattle.plain_model.specs.LawfulExamples.{LawfulExamples, wanting_cell, IsLawfulAlone, nothing_script, nothing_report, wanting_script, wanting_report, IsRegistered, registry, HasLines, nothing_lines, second_wins_lines}
+use Rattle.plain_model.proofs.Alone.{alone}
+use Rattle.plain_model.specs.ReportExamples.{ReportExample, IsTold, report_examples, adding_and_reading, read_between, equal_value_installs, queue_emptied, greatest_sum, publications, two_parts, added_and_updated, removed, transformed_texts, stack_calls}
+use Rattle.plain_model.specs.LawfulExamples.{LawfulExamples, wanting_cell, nothing_script, nothing_report, wanting_script, wanting_report, registry, service, HasLines, nothing_lines, second_wins_lines, reading, seen}
+
+abbrev IsLawfulAlone : ReportExample → Type 0
+IsLawfulAlone e = Lawful e.script 1 (alone e.script)
 
 -- the one number below 1
 only_zero : (P : ℕ → Type 0) → P 0 → (k : ℕ) → k < 1 → P k
@@ -22,11 +32,38 @@ adding_and_reading_lawful = record {
   works = only_zero _ (record { lines = refl; calls = (refl, tt) });
 }
 
+read_between_lawful : IsLawfulAlone read_between
+read_between_lawful = record {
+  workers = refl;
+  cells = refl;
+  runs = (record { first = refl; legal = record { steps = (record { installed = refl; reply = refl; position = refl }, (record { installed = refl; reply = refl; position = refl }, (record { installed = refl; reply = refl; position = refl }, tt))); order = ((λ a b c. absurd (true≢false a)), ((λ a b c. absurd (true≢false b)), tt)) }; callers = ((omega arith, omega arith), ((omega arith, omega arith), ((omega arith, omega arith), tt))); last = refl }, tt);
+  lanes = refl;
+  works = only_zero _ (record { lines = refl; calls = (refl, tt) });
+}
+
 equal_value_installs_lawful : IsLawfulAlone equal_value_installs
 equal_value_installs_lawful = record {
   workers = refl;
   cells = refl;
   runs = (record { first = refl; legal = record { steps = (record { installed = refl; reply = refl; position = refl }, (record { installed = refl; reply = refl; position = refl }, tt)); order = ((λ a b c. absurd (true≢false a)), tt) }; callers = ((omega arith, omega arith), ((omega arith, omega arith), tt)); last = refl }, tt);
+  lanes = refl;
+  works = only_zero _ (record { lines = refl; calls = (refl, tt) });
+}
+
+queue_emptied_lawful : IsLawfulAlone queue_emptied
+queue_emptied_lawful = record {
+  workers = refl;
+  cells = refl;
+  runs = (record { first = refl; legal = record { steps = (record { installed = refl; reply = refl; position = refl }, (record { installed = refl; reply = refl; position = refl }, (record { installed = refl; reply = refl; position = refl }, (record { installed = refl; reply = refl; position = refl }, (record { installed = refl; reply = refl; position = refl }, (record { installed = refl; reply = refl; position = refl }, (record { installed = refl; reply = refl; position = refl }, tt))))))); order = ((λ a b c. absurd (true≢false a)), ((λ a b c. absurd (true≢false a)), ((λ a b c. absurd (true≢false a)), ((λ a b c. absurd (true≢false a)), ((λ a b c. absurd (true≢false a)), ((λ a b c. absurd (true≢false a)), tt)))))) }; callers = ((omega arith, omega arith), ((omega arith, omega arith), ((omega arith, omega arith), ((omega arith, omega arith), ((omega arith, omega arith), ((omega arith, omega arith), ((omega arith, omega arith), tt))))))); last = refl }, tt);
+  lanes = refl;
+  works = only_zero _ (record { lines = refl; calls = (refl, tt) });
+}
+
+greatest_sum_lawful : IsLawfulAlone greatest_sum
+greatest_sum_lawful = record {
+  workers = refl;
+  cells = refl;
+  runs = (record { first = refl; legal = record { steps = (record { installed = refl; reply = refl; position = refl }, tt); order = tt }; callers = ((omega arith, omega arith), tt); last = refl }, tt);
   lanes = refl;
   works = only_zero _ (record { lines = refl; calls = (refl, tt) });
 }
@@ -45,6 +82,42 @@ two_parts_lawful = record {
   workers = refl;
   cells = refl;
   runs = (record { first = refl; legal = record { steps = (record { installed = refl; reply = refl; position = refl }, (record { installed = refl; reply = refl; position = refl }, tt)); order = ((λ a b c. absurd (true≢false b)), tt) }; callers = ((omega arith, omega arith), ((omega arith, omega arith), tt)); last = refl }, tt);
+  lanes = refl;
+  works = only_zero _ (record { lines = refl; calls = (refl, tt) });
+}
+
+added_and_updated_lawful : IsLawfulAlone added_and_updated
+added_and_updated_lawful = record {
+  workers = refl;
+  cells = refl;
+  runs = (record { first = refl; legal = record { steps = (record { installed = refl; reply = refl; position = refl }, (record { installed = refl; reply = refl; position = refl }, (record { installed = refl; reply = refl; position = refl }, (record { installed = refl; reply = refl; position = refl }, tt)))); order = ((λ a b c. absurd (true≢false a)), ((λ a b c. absurd (true≢false a)), ((λ a b c. absurd (true≢false b)), tt))) }; callers = ((omega arith, omega arith), ((omega arith, omega arith), ((omega arith, omega arith), ((omega arith, omega arith), tt)))); last = refl }, tt);
+  lanes = refl;
+  works = only_zero _ (record { lines = refl; calls = (refl, tt) });
+}
+
+removed_lawful : IsLawfulAlone removed
+removed_lawful = record {
+  workers = refl;
+  cells = refl;
+  runs = (record { first = refl; legal = record { steps = (record { installed = refl; reply = refl; position = refl }, (record { installed = refl; reply = refl; position = refl }, (record { installed = refl; reply = refl; position = refl }, tt))); order = ((λ a b c. absurd (true≢false b)), ((λ a b c. absurd (true≢false a)), tt)) }; callers = ((omega arith, omega arith), ((omega arith, omega arith), ((omega arith, omega arith), tt))); last = refl }, tt);
+  lanes = refl;
+  works = only_zero _ (record { lines = refl; calls = (refl, tt) });
+}
+
+transformed_texts_lawful : IsLawfulAlone transformed_texts
+transformed_texts_lawful = record {
+  workers = refl;
+  cells = refl;
+  runs = (record { first = refl; legal = record { steps = (record { installed = refl; reply = refl; position = refl }, (record { installed = refl; reply = refl; position = refl }, (record { installed = refl; reply = refl; position = refl }, tt))); order = ((λ a b c. absurd (true≢false a)), ((λ a b c. absurd (true≢false a)), tt)) }; callers = ((omega arith, omega arith), ((omega arith, omega arith), ((omega arith, omega arith), tt))); last = refl }, tt);
+  lanes = refl;
+  works = only_zero _ (record { lines = refl; calls = (refl, tt) });
+}
+
+stack_calls_lawful : IsLawfulAlone stack_calls
+stack_calls_lawful = record {
+  workers = refl;
+  cells = refl;
+  runs = (record { first = refl; legal = record { steps = (record { installed = refl; reply = refl; position = refl }, (record { installed = refl; reply = refl; position = refl }, (record { installed = refl; reply = refl; position = refl }, (record { installed = refl; reply = refl; position = refl }, (record { installed = refl; reply = refl; position = refl }, tt))))); order = ((λ a b c. absurd (true≢false a)), ((λ a b c. absurd (true≢false a)), ((λ a b c. absurd (true≢false a)), ((λ a b c. absurd (true≢false a)), tt)))) }; callers = ((omega arith, omega arith), ((omega arith, omega arith), ((omega arith, omega arith), ((omega arith, omega arith), ((omega arith, omega arith), tt))))); last = refl }, tt);
   lanes = refl;
   works = only_zero _ (record { lines = refl; calls = (refl, tt) });
 }
@@ -97,17 +170,84 @@ second_has_lines : HasLines (wanting_report 2 1) second_wins_lines
 unfolding digits
 second_has_lines = refl
 
-registered : IsRegistered (alone registry)
+-- ---- what is not lawful
+
+neither_before : (a b o p : ℕ) → b ≤ a → (a ≡ b → p ≤ o) → (a < b) ⊎ ((a ≡ b) × (o < p)) → ⊥
+neither_before a b o p h i (inl l) = omega arith
+neither_before a b o p h i (inr (e, l)) = let j : p ≤ o = i e in omega (arith, j, l)
+
+later_worker_first : InOrder (reading 2 1 ∷ reading 1 1 ∷ []) → ⊥
+later_worker_first h = neither_before 2 1 1 1 (omega arith) (λ e. omega arith) (h.0 refl refl refl)
+
+later_ordinal_first : InOrder (reading 1 2 ∷ reading 1 1 ∷ []) → ⊥
+later_ordinal_first h = neither_before 1 1 2 1 (omega arith) (λ e. omega arith) (h.0 refl refl refl)
+
+stranger : IsRun 2 (seen (reading 3 1)) → ⊥
+stranger run = let h : 3 ≤ 2 = run.callers.0.1 in omega (arith, h)
+
+nobody : IsRun 2 (seen (reading 0 1)) → ⊥
+nobody run = let h : 1 ≤ 0 = run.callers.0.0 in omega (arith, h)
+
+another_reply : IsRun 1 (seen (record (reading 1 1) { reply = replies.Count 1 })) → ⊥
+another_reply run = let h : replies.Count 1 ≡ replies.Count 0 = run.legal.steps.0.reply in cc
+
+registered_installs : registry.0 ≡ 200
+registered_installs = refl
+
+registered_finals : pairs registry.1.values ≡ map (λ i. (service i, Int (pos 4))) (numbers_from 1 40)
+registered_finals = refl
+
+registered_frozen : length (frozen_pairs equalities.NoCase (pairs registry.1.values)) ≡ 40
+registered_frozen = refl
+
+pub reports_hold : AllByRecursion IsTold report_examples
 unfolding digits
-registered = record { installs = refl; finals = refl; counts = refl }
+reports_hold = (
+  record { report = alone adding_and_reading.script; lawful = adding_and_reading_lawful; text = refl },
+  (
+    record { report = alone read_between.script; lawful = read_between_lawful; text = refl },
+    (
+      record { report = alone equal_value_installs.script; lawful = equal_value_installs_lawful; text = refl },
+      (
+        record { report = alone queue_emptied.script; lawful = queue_emptied_lawful; text = refl },
+        (
+          record { report = alone greatest_sum.script; lawful = greatest_sum_lawful; text = refl },
+          (
+            record { report = alone publications.script; lawful = publications_lawful; text = refl },
+            (
+              record { report = alone two_parts.script; lawful = two_parts_lawful; text = refl },
+              (
+                record { report = alone added_and_updated.script; lawful = added_and_updated_lawful; text = refl },
+                (
+                  record { report = alone removed.script; lawful = removed_lawful; text = refl },
+                  (
+                    record { report = alone transformed_texts.script; lawful = transformed_texts_lawful; text = refl },
+                    (
+                      record { report = alone stack_calls.script; lawful = stack_calls_lawful; text = refl },
+                      tt,
+                    ),
+                  ),
+                ),
+              ),
+            ),
+          ),
+        ),
+      ),
+    ),
+  ),
+)
 
 pub lawful_hold : LawfulExamples
 lawful_hold = record {
-  one_worker = (adding_and_reading_lawful, (equal_value_installs_lawful, (publications_lawful, (two_parts_lawful, tt))));
   nothing = nothing_lawful;
-  nothing_lines = nothing_has_lines;
+  nothing_text = nothing_has_lines;
   first_wins = first_wins;
   second_wins = second_wins;
-  second_wins_lines = second_has_lines;
-  registered = registered;
+  second_text = second_has_lines;
+  later_worker_first = later_worker_first;
+  later_ordinal_first = later_ordinal_first;
+  stranger = stranger;
+  nobody = nobody;
+  another_reply = another_reply;
+  registered = record { installs = registered_installs; finals = registered_finals; frozen = registered_frozen };
 }

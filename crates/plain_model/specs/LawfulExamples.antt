@@ -1,6 +1,6 @@
 -- Reports that are lawful, and what they have in them.
-use Rattle.std.specs.Prelude.{◌≡◌, ◌/◌, ◌%◌, ℕ, pos, List, [], ◌∷◌, ◌++◌, length, map, filter, replicate, codes, decimal, bytes_eq, Bool, true, false, None, Some}
-use Rattle.std.specs.List.{flat_map, AllByRecursion}
+use Rattle.std.specs.Prelude.{◌≡◌, ◌+◌, ◌/◌, ◌%◌, ℕ, pos, List, [], ◌∷◌, ◌++◌, length, map, fold, codes, Bool, true, false, Option, Some, None}
+use Rattle.std.specs.List.{flat_map}
 use Rattle.imm_base.specs.declared.val.Val.{Val}
 use Rattle.imm_base.specs.declared.val.Val.TheVariants.{Int, Text}
 use Rattle.imm_base.specs.declared.comparers.ValEq.TheVariants as equalities
@@ -9,30 +9,21 @@ use Rattle.plain_model.specs.declared.plain.Plain.{Plain}
 use Rattle.plain_model.specs.declared.plain.Values.TheVariants as values
 use Rattle.plain_model.specs.declared.commands.Command.{Command}
 use Rattle.plain_model.specs.declared.commands.Command.TheVariants as commands
-use Rattle.plain_model.specs.declared.commands.Query.TheVariants as queries
 use Rattle.plain_model.specs.declared.commands.Transform.TheVariants.{Plus}
+use Rattle.plain_model.specs.declared.commands.PlainCall.{PlainCall}
 use Rattle.plain_model.specs.declared.commands.PlainCall.TheVariants as calls
 use Rattle.plain_model.specs.declared.history.Line.{Line}
 use Rattle.plain_model.specs.declared.history.Reply.TheVariants as replies
 use Rattle.plain_model.specs.declared.report.CellDecl.{CellDecl}
 use Rattle.plain_model.specs.declared.report.CellReport.{CellReport}
-use Rattle.plain_model.specs.declared.report.LocalLine.{LocalLine}
 use Rattle.plain_model.specs.declared.report.Report.{Report}
 use Rattle.plain_model.specs.declared.report.Script.{Script}
-use Rattle.plain_model.specs.Plain.{pairs}
-use Rattle.plain_model.specs.Frozen.{numbers_from}
-use Rattle.plain_model.specs.Text.{spaced, arrow, command_words, answer_words, report_text, end_line}
-use Rattle.plain_model.specs.Lawful.{Lawful}
-use Rattle.plain_model.specs.Alone.{alone}
-use Rattle.plain_model.specs.ReportExamples.{ReportExample, adding_and_reading, equal_value_installs, publications, two_parts}
-
--- ---- one worker
-
-abbrev pub IsLawfulAlone : ReportExample → Type 0
-IsLawfulAlone e = Lawful e.script 1 (alone e.script)
-
-abbrev pub lawful_examples : List ReportExample
-lawful_examples = adding_and_reading ∷ equal_value_installs ∷ publications ∷ two_parts ∷ []
+use Rattle.plain_model.specs.Plain.{pairs, nothing}
+use Rattle.plain_model.specs.Frozen.{numbers_from, frozen_pairs}
+use Rattle.plain_model.specs.Text.{report_text, end_line}
+use Rattle.plain_model.specs.Lawful.{IsRun, Lawful}
+use Rattle.plain_model.specs.History.{InOrder}
+use Rattle.plain_model.specs.Cell.{cell}
 
 -- ---- more workers than parts
 
@@ -90,42 +81,42 @@ second_wins_lines =
     ∷ codes "end"
     ∷ []
 
--- ---- a registry: four parts that count to four at each of forty names
+-- ---- a read that installs nothing, by a worker, as the only line of a list cell
 
+abbrev pub reading : ℕ → ℕ → Line
+reading w o = record { position = 0; caller = w; ordinal = o; call = calls.Read; reply = replies.Count 0; installed = false }
+
+abbrev pub nothing_yet : Plain
+nothing_yet = record { kind = kinds.List; values = values.List [] }
+
+abbrev pub seen : Line → CellReport
+seen l = record { cell = record { name = codes "A"; kind = kinds.List; values = values.List [] }; first = nothing_yet; lines = l ∷ []; last = nothing_yet }
+
+-- ---- a registry: four workers, one after another, count to four at each of forty names
+
+-- "svc" and two digits
 abbrev pub service : ℕ → Val
-service i = Text (codes "svc" ++ decimal (i / 10) ++ decimal (i % 10))
+service i = Text (codes "svc" ++ (48 + i / 10) ∷ (48 + i % 10) ∷ [])
 
-abbrev pub registering : List Command
-registering =
-    flat_map (λ i. commands.GetOrAdd (codes "R") (service i) (Int (pos 0)) ∷ commands.AddOrUpdate (codes "R") (service i) (Int (pos 1)) (Plus (pos 1)) ∷ []) (numbers_from 1 40)
-    ++ commands.Read (codes "R") (codes "s")
-    ∷ commands.FrozenMap (codes "f") equalities.NoCase (values.Pairs []) (Some (codes "s"))
-    ∷ commands.Ask (codes "f") queries.Count None
-    ∷ commands.Walk (codes "w") (codes "s")
-    ∷ commands.Next (codes "w")
-    ∷ commands.Dispose (codes "w")
-    ∷ []
+abbrev pub registering : List PlainCall
+registering = flat_map (λ i. calls.GetOrAdd (service i) (Int (pos 0)) ∷ calls.AddOrUpdate (service i) (Int (pos 1)) (Plus (pos 1)) ∷ []) (numbers_from 1 40)
 
-abbrev pub registry : Script
-registry = record { version = 1; cells = record { name = codes "R"; kind = kinds.Dict equalities.NoCase; values = values.Pairs [] } ∷ []; parts = replicate 4 (record { commands = registering }) }
+abbrev pub registrations : List PlainCall
+registrations = flat_map (λ worker. registering) (numbers_from 1 4)
 
--- the installed lines, the final, and how often the count is asked
-abbrev pub installs : Report → List ℕ
-installs r = map (λ c. length (filter (λ l. l.installed) c.lines)) r.cells
+-- one install more, where there is one
+abbrev pub moved : ℕ → Plain → Option Plain → ℕ × Plain
+moved n p (Some q) = (n + 1, q)
+moved n p None = (n, p)
 
-abbrev pub finals : Report → List (List (Val × Val))
-finals r = map (λ c. pairs c.last.values) r.cells
+-- how many calls installed, and the last value
+abbrev pub registry : ℕ × Plain
+registry = fold (λ r call. moved r.0 r.1 (cell call r.1).installs) (0, nothing (kinds.Dict equalities.NoCase)) registrations
 
-abbrev pub says : List ℕ → LocalLine → Bool
-says text l = bytes_eq (spaced (command_words l.command ++ arrow ∷ answer_words l.answer)) text
-
-abbrev pub times_said : List ℕ → Report → List ℕ
-times_said text r = map (λ ls. length (filter (says text) ls)) r.locals
-
-pub record IsRegistered (r : Report) : Type 0 where
-  pub installs : installs r ≡ 200 ∷ []
-  pub finals : finals r ≡ map (λ i. (service i, Int (pos 4))) (numbers_from 1 40) ∷ []
-  pub counts : times_said (codes "ask f count -> 40") r ≡ 4 ∷ []
+pub record IsRegistered : Type 0 where
+  pub installs : registry.0 ≡ 200
+  pub finals : pairs registry.1.values ≡ map (λ i. (service i, Int (pos 4))) (numbers_from 1 40)
+  pub frozen : length (frozen_pairs equalities.NoCase (pairs registry.1.values)) ≡ 40
 
 -- ---- all of it
 
@@ -133,10 +124,16 @@ abbrev pub HasLines : Report → List (List ℕ) → Type 0
 HasLines r lines = report_text r ≡ flat_map (λ l. l ++ end_line) lines
 
 pub record LawfulExamples : Type 0 where
-  pub one_worker : AllByRecursion IsLawfulAlone lawful_examples
   pub nothing : Lawful nothing_script 3 nothing_report
-  pub nothing_lines : HasLines nothing_report nothing_lines
+  pub nothing_text : HasLines nothing_report nothing_lines
   pub first_wins : Lawful wanting_script 2 (wanting_report 1 2)
   pub second_wins : Lawful wanting_script 2 (wanting_report 2 1)
-  pub second_wins_lines : HasLines (wanting_report 2 1) second_wins_lines
-  pub registered : IsRegistered (alone registry)
+  pub second_text : HasLines (wanting_report 2 1) second_wins_lines
+  -- lines at one position stand by worker and by ordinal
+  pub later_worker_first : InOrder (reading 2 1 ∷ reading 1 1 ∷ []) → ⊥
+  pub later_ordinal_first : InOrder (reading 1 2 ∷ reading 1 1 ∷ []) → ⊥
+  -- lines of workers that there are not, and a line with another reply
+  pub stranger : IsRun 2 (seen (reading 3 1)) → ⊥
+  pub nobody : IsRun 2 (seen (reading 0 1)) → ⊥
+  pub another_reply : IsRun 1 (seen (record (reading 1 1) { reply = replies.Count 1 })) → ⊥
+  pub registered : IsRegistered

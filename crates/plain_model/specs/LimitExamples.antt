@@ -1,7 +1,7 @@
 -- Collections that are full: what is refused, in which order, and what is not.
 use Rattle.std.specs.Prelude.{◌≡◌, ◌++◌, ℕ, pos, negsuc, List, [], ◌∷◌, codes, is_some}
 use Rattle.imm_base.specs.declared.TheConstants.{LIMIT}
-use Rattle.imm_base.specs.declared.val.Val.TheVariants.{Int}
+use Rattle.imm_base.specs.declared.val.Val.TheVariants.{Int, Text}
 use Rattle.imm_base.specs.declared.comparers.ValOrder.TheVariants as orders
 use Rattle.imm_base.specs.declared.comparers.ValEq.TheVariants as equalities
 use Rattle.plain_model.specs.declared.plain.Kind.{Kind}
@@ -14,9 +14,10 @@ use Rattle.plain_model.specs.declared.commands.PlainCall.{PlainCall}
 use Rattle.plain_model.specs.declared.commands.PlainCall.TheVariants as calls
 use Rattle.plain_model.specs.declared.commands.Transform.TheVariants.{Plus}
 use Rattle.plain_model.specs.Plain.{elements, pairs, plain}
-use Rattle.plain_model.specs.Cell.{cell}
+use Rattle.plain_model.specs.Cell.{cell, after}
+use Rattle.plain_model.specs.Builders.{grown}
 use Rattle.plain_model.specs.Locals.{change_answer}
-use Rattle.plain_model.specs.Text.{spaced, answer_words, reply_words, mark}
+use Rattle.plain_model.specs.Text.{spaced, collection_words, answer_words, reply_words, mark}
 
 -- the numbers from 0 to one less than the limit
 abbrev pub full : Kind → Plain
@@ -32,6 +33,18 @@ gives op p = spaced (answer_words (change_answer (plain op p)))
 -- what a call replies, with the mark whether it installs
 abbrev pub replies : PlainCall → Plain → List ℕ
 replies call p = mark (is_some (cell call p).installs) ++ 32 ∷ spaced (reply_words (cell call p).reply)
+
+-- a dictionary that takes no notice of capitals
+abbrev pub small : Plain
+small = record { kind = kinds.Dict equalities.NoCase; values = values.Pairs ((Text (codes "a"), Int (pos 1)) ∷ []) }
+
+-- what a call makes of it
+abbrev pub turned : PlainCall → List ℕ
+turned call = spaced (collection_words (after call small).values)
+
+-- the capacity of an array builder never grows above the limit
+abbrev pub capacities : List ℕ
+capacities = grown 9001 9000 ∷ grown 3 2 ∷ grown 7 2 ∷ grown 2 4 ∷ []
 
 pub record LimitExamples : Type 0 where
   pub array_add : gives (ops.Add (Int (pos 1))) (full kinds.Array) ≡ codes "refused toolarge 16384"
@@ -58,3 +71,12 @@ pub record LimitExamples : Type 0 where
   pub try_add_present : replies (calls.TryAdd (Int (pos 5)) (Int (pos 1))) (full_pairs (kinds.Dict equalities.Ordinal)) ≡ codes ". false"
   pub try_add : replies (calls.TryAdd (Int (negsuc 0)) (Int (pos 1))) (full_pairs (kinds.Dict equalities.Ordinal)) ≡ codes ". refused toolarge 16384"
   pub cell_push : replies (calls.Push (Int (pos 1))) (full kinds.Stack) ≡ codes ". refused toolarge 16384"
+  pub cell_enqueue : replies (calls.Enqueue (Int (pos 1))) (full kinds.Queue) ≡ codes ". refused toolarge 16384"
+  pub update_refused : replies (calls.Update (ops.RemoveAt 0)) (record { kind = kinds.List; values = values.List [] }) ≡ codes ". refused outofrange 0 0"
+  pub updated_spelling : turned (calls.AddOrUpdate (Text (codes "A")) (Int (pos 5)) (Plus (pos 1))) ≡ codes "1: \"A\"=2"
+  pub updated_equal : turned (calls.AddOrUpdate (Text (codes "A")) (Int (pos 5)) (Plus (pos 0))) ≡ codes "1: \"a\"=1"
+  pub exchanged_spelling : turned (calls.TryUpdate (Text (codes "A")) (Int (pos 5)) (Int (pos 1))) ≡ codes "1: \"A\"=5"
+  pub not_exchanged : turned (calls.TryUpdate (Text (codes "A")) (Int (pos 5)) (Int (pos 5))) ≡ codes "1: \"a\"=1"
+  pub added : turned (calls.TryAdd (Text (codes "B")) (Int (pos 5))) ≡ codes "2: \"B\"=5 \"a\"=1"
+  pub added_reply : replies (calls.TryAdd (Text (codes "B")) (Int (pos 5))) small ≡ codes "+ true"
+  pub capacity : capacities ≡ 16384 ∷ 4 ∷ 7 ∷ 4 ∷ []

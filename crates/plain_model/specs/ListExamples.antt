@@ -191,6 +191,59 @@ tests_and_sorts = record {
       ∷ [];
 }
 
+-- what is the same list at the edges, and what a name has after a refusal
+abbrev pub list_edges : Example
+list_edges = record {
+  commands =
+      commands.New (codes "x") kinds.List (values.List (map Int (pos 5 ∷ pos 3 ∷ pos 9 ∷ pos 3 ∷ []))) None
+      ∷ commands.Let (codes "a") (codes "x") (ops.AddRange (values.List [])) None
+      ∷ commands.Let (codes "b") (codes "x") (ops.Remove (Int (pos 7))) None
+      ∷ commands.Let (codes "c") (codes "x") (ops.Replace (Int (pos 3)) (Int (pos 4))) None
+      ∷ commands.Show (codes "c")
+      ∷ commands.Let (codes "d") (codes "x") (ops.SetItem 4 (Int (pos 0))) None
+      ∷ commands.Show (codes "d")
+      ∷ commands.Let (codes "e") (codes "x") (ops.SetItem 0 (Int (pos 5))) None
+      ∷ commands.Let (codes "f") (codes "x") (ops.GetRange 2 3) None
+      ∷ commands.Let (codes "g") (codes "x") (ops.GetRange 4 0) None
+      ∷ commands.Let (codes "r") (codes "x") (ops.GetRange 0 3) None
+      ∷ commands.Show (codes "g")
+      ∷ commands.Let (codes "h") (codes "x") (ops.Sort orders.Ordinal) None
+      ∷ commands.Let (codes "i") (codes "h") (ops.Sort orders.Ordinal) None
+      ∷ commands.New (codes "o") kinds.List (values.List (map Int (pos 1 ∷ []))) None
+      ∷ commands.Let (codes "p") (codes "o") ops.Reverse None
+      ∷ commands.Let (codes "q") (codes "o") (ops.Sort orders.Ordinal) None
+      ∷ commands.Ask (codes "x") (queries.IndexOf (Int (pos 3))) None
+      ∷ commands.Ask (codes "x") (queries.LastIndexOf (Int (pos 7))) None
+      ∷ commands.Ask (codes "x") (queries.Contains (Int (pos 7))) None
+      ∷ commands.New (codes "y") kinds.List (values.Seq (pos 0) 16385) None
+      ∷ commands.Show (codes "y")
+      ∷ [];
+  lines =
+      codes "1.1 new x list 5 3 9 3 -> 4"
+      ∷ codes "1.2 let a x addrange -> same"
+      ∷ codes "1.3 let b x remove 7 -> same"
+      ∷ codes "1.4 let c x replace 3 4 -> new"
+      ∷ codes "1.5 show c -> 4: 5 4 9 3"
+      ∷ codes "1.6 let d x setitem 4 0 -> refused outofrange 4 4"
+      ∷ codes "1.7 show d -> 4: 5 3 9 3"
+      ∷ codes "1.8 let e x setitem 0 5 -> new"
+      ∷ codes "1.9 let f x getrange 2 3 -> refused outofrange 2 4"
+      ∷ codes "1.10 let g x getrange 4 0 -> new"
+      ∷ codes "1.11 let r x getrange 0 3 -> new"
+      ∷ codes "1.12 show g -> 0:"
+      ∷ codes "1.13 let h x sort ordinal -> new"
+      ∷ codes "1.14 let i h sort ordinal -> new"
+      ∷ codes "1.15 new o list 1 -> 1"
+      ∷ codes "1.16 let p o reverse -> same"
+      ∷ codes "1.17 let q o sort ordinal -> same"
+      ∷ codes "1.18 ask x indexof 3 -> 1"
+      ∷ codes "1.19 ask x lastindexof 7 -> -1"
+      ∷ codes "1.20 ask x contains 7 -> false"
+      ∷ codes "1.21 new y list seq 0 16385 -> refused toolarge 0"
+      ∷ codes "1.22 show y -> 0:"
+      ∷ [];
+}
+
 -- stacks and queues; a key that is there twice under another comparer
 abbrev pub stacks_and_queues : Example
 stacks_and_queues = record {
@@ -268,4 +321,4 @@ from_names = record {
 }
 
 abbrev pub list_examples : List Example
-list_examples = places_within ∷ extremes ∷ full_list ∷ list_words ∷ tests_and_sorts ∷ stacks_and_queues ∷ from_names ∷ []
+list_examples = places_within ∷ extremes ∷ full_list ∷ list_words ∷ tests_and_sorts ∷ list_edges ∷ stacks_and_queues ∷ from_names ∷ []

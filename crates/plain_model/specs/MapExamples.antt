@@ -1,5 +1,5 @@
 -- Worked lines of maps.
-use Rattle.std.specs.Prelude.{pos, List, [], ◌∷◌, codes, None}
+use Rattle.std.specs.Prelude.{pos, List, [], ◌∷◌, map, codes, None}
 use Rattle.imm_base.specs.declared.val.Val.TheVariants.{Int, Text}
 use Rattle.imm_base.specs.declared.comparers.ValOrder.TheVariants as orders
 use Rattle.imm_base.specs.declared.comparers.ValEq.TheVariants as equalities
@@ -139,5 +139,52 @@ pairs_in_order = record {
       ∷ [];
 }
 
+-- which spelling of a key stays
+abbrev pub kept_spelling : Example
+kept_spelling = record {
+  commands =
+      commands.New (codes "d") (kinds.Dict equalities.NoCase) (values.Pairs ((Text (codes "a"), Int (pos 1)) ∷ [])) None
+      ∷ commands.Let (codes "e") (codes "d") (ops.AddPair (Text (codes "B")) (Int (pos 2))) None
+      ∷ commands.Show (codes "e")
+      ∷ commands.Let (codes "f") (codes "d") (ops.AddPair (Text (codes "A")) (Int (pos 1))) None
+      ∷ commands.Show (codes "f")
+      ∷ commands.Let (codes "g") (codes "d") (ops.AddPairs (values.Pairs ((Text (codes "A"), Int (pos 1)) ∷ (Text (codes "c"), Int (pos 3)) ∷ []))) None
+      ∷ commands.Show (codes "g")
+      ∷ commands.Let (codes "h") (codes "d") (ops.RemoveKeys (values.List (Text (codes "z") ∷ []))) None
+      ∷ commands.Ask (codes "d") (queries.KeyOf (Text (codes "A"))) None
+      ∷ commands.Ask (codes "d") (queries.HasValue (Int (pos 2))) None
+      ∷ commands.Let (codes "i") (codes "d") (ops.SetPairs (values.Pairs ((Text (codes "A"), Int (pos 1)) ∷ (Text (codes "b"), Int (pos 2)) ∷ []))) None
+      ∷ commands.Show (codes "i")
+      ∷ commands.New (codes "m") (kinds.SMap orders.NoCase) (values.Pairs ((Text (codes "b"), Int (pos 1)) ∷ (Text (codes "A"), Int (pos 2)) ∷ [])) None
+      ∷ commands.Let (codes "n") (codes "m") (ops.SetPair (Text (codes "B")) (Int (pos 3))) None
+      ∷ commands.Show (codes "n")
+      ∷ commands.Let (codes "o") (codes "m") (ops.AddPair (Text (codes "B")) (Int (pos 3))) None
+      ∷ commands.Show (codes "o")
+      ∷ commands.Walk (codes "w") (codes "m")
+      ∷ commands.Next (codes "w")
+      ∷ [];
+  lines =
+      codes "1.1 new d dict nocase \"a\"=1 -> 1"
+      ∷ codes "1.2 let e d addpair \"B\" 2 -> new"
+      ∷ codes "1.3 show e -> 2: \"B\"=2 \"a\"=1"
+      ∷ codes "1.4 let f d addpair \"A\" 1 -> same"
+      ∷ codes "1.5 show f -> 1: \"a\"=1"
+      ∷ codes "1.6 let g d addpairs \"A\"=1 \"c\"=3 -> new"
+      ∷ codes "1.7 show g -> 2: \"a\"=1 \"c\"=3"
+      ∷ codes "1.8 let h d removekeys \"z\" -> same"
+      ∷ codes "1.9 ask d keyof \"A\" -> \"a\""
+      ∷ codes "1.10 ask d hasvalue 2 -> false"
+      ∷ codes "1.11 let i d setpairs \"A\"=1 \"b\"=2 -> new"
+      ∷ codes "1.12 show i -> 2: \"a\"=1 \"b\"=2"
+      ∷ codes "1.13 new m smap nocase \"b\"=1 \"A\"=2 -> 2"
+      ∷ codes "1.14 let n m setpair \"B\" 3 -> new"
+      ∷ codes "1.15 show n -> 2: \"A\"=2 \"B\"=3"
+      ∷ codes "1.16 let o m addpair \"B\" 3 -> refused keyexists 1"
+      ∷ codes "1.17 show o -> 2: \"A\"=2 \"b\"=1"
+      ∷ codes "1.18 walk w m -> ok"
+      ∷ codes "1.19 next w -> true \"A\"=2"
+      ∷ [];
+}
+
 abbrev pub map_examples : List Example
-map_examples = pairs_present ∷ new_spelling ∷ reverse_map ∷ pairs_in_order ∷ []
+map_examples = pairs_present ∷ new_spelling ∷ reverse_map ∷ pairs_in_order ∷ kept_spelling ∷ []

@@ -8,17 +8,20 @@ use Rattle.plain_model.specs.declared.plain.Values.TheVariants as values
 use Rattle.plain_model.specs.declared.commands.PlainOp.TheVariants as ops
 use Rattle.plain_model.specs.declared.commands.Transform.TheVariants.{Set, Plus, Max}
 use Rattle.plain_model.specs.declared.commands.Command.TheVariants as commands
+use Rattle.plain_model.specs.declared.report.Report.{Report}
 use Rattle.plain_model.specs.declared.report.Script.{Script}
 use Rattle.plain_model.specs.Text.{report_text, end_line}
-use Rattle.plain_model.specs.Alone.{alone}
+use Rattle.plain_model.specs.Lawful.{Lawful}
 
 pub record ReportExample : Type 0 where
   pub script : Script
   pub lines : List (List ℕ)
 
--- the report of one worker has these lines
-abbrev pub IsTold : ReportExample → Type 0
-IsTold e = report_text (alone e.script) ≡ flat_map (λ l. l ++ end_line) e.lines
+-- one worker may come to a report with these lines
+pub record IsTold (e : ReportExample) : Type 0 where
+  pub report : Report
+  pub lawful : Lawful e.script 1 report
+  pub text : report_text report ≡ flat_map (λ l. l ++ end_line) e.lines
 
 -- a list that grows, and its value at a read
 abbrev pub adding_and_reading : ReportExample
@@ -48,6 +51,38 @@ adding_and_reading = record {
       ∷ codes "final 2: 5 -7"
       ∷ codes "worker 1"
       ∷ codes "1.4 show x -> 2: 5 -7"
+      ∷ codes "end"
+      ∷ [];
+}
+
+-- a read binds the value of its own position
+abbrev pub read_between : ReportExample
+read_between = record {
+  script = record {
+    version = 1;
+    cells = record { name = codes "A"; kind = kinds.List; values = values.List [] } ∷ [];
+    parts =
+        record {
+          commands =
+              commands.Update (codes "A") (ops.Add (Int (pos 5)))
+              ∷ commands.Read (codes "A") (codes "x")
+              ∷ commands.Update (codes "A") (ops.Add (Int (negsuc 6)))
+              ∷ commands.Show (codes "x")
+              ∷ [];
+        }
+        ∷ [];
+  };
+  lines =
+      codes "immrun report 1"
+      ∷ codes "workers 1"
+      ∷ codes "cell A list"
+      ∷ codes "first 0:"
+      ∷ codes "1 1.1 + update add 5 -> true"
+      ∷ codes "1 1.2 . read -> 1"
+      ∷ codes "2 1.3 + update add -7 -> true"
+      ∷ codes "final 2: 5 -7"
+      ∷ codes "worker 1"
+      ∷ codes "1.4 show x -> 1: 5"
       ∷ codes "end"
       ∷ [];
 }
@@ -208,9 +243,9 @@ two_parts = record {
       ∷ [];
 }
 
--- the calls of a dictionary that takes no notice of capitals
-abbrev pub dictionary_calls : ReportExample
-dictionary_calls = record {
+-- a key that is added and updated, in any capitals
+abbrev pub added_and_updated : ReportExample
+added_and_updated = record {
   script = record {
     version = 1;
     cells = record { name = codes "R"; kind = kinds.Dict equalities.NoCase; values = values.Pairs [] } ∷ [];
@@ -221,12 +256,6 @@ dictionary_calls = record {
               ∷ commands.AddOrUpdate (codes "R") (Text (codes "svc01")) (Int (pos 1)) (Plus (pos 1))
               ∷ commands.GetOrAdd (codes "R") (Text (codes "SVC01")) (Int (pos 0))
               ∷ commands.AddOrUpdate (codes "R") (Text (codes "SVC01")) (Int (pos 1)) (Max (Int (pos 7)))
-              ∷ commands.TryAdd (codes "R") (Text (codes "svc01")) (Int (pos 1))
-              ∷ commands.TryRemove (codes "R") (Text (codes "svc01"))
-              ∷ commands.TryRemove (codes "R") (Text (codes "svc01"))
-              ∷ commands.AddOrUpdate (codes "R") (Text (codes "b")) (Int (pos 1)) (Set (Int (pos 2)))
-              ∷ commands.AddOrUpdate (codes "R") (Text (codes "b")) (Int (pos 1)) (Set (Text (codes "c")))
-              ∷ commands.AddOrUpdate (codes "R") (Text (codes "b")) (Int (pos 1)) (Plus (pos 5))
               ∷ [];
         }
         ∷ [];
@@ -240,12 +269,66 @@ dictionary_calls = record {
       ∷ codes "2 1.2 + addorupdate \"svc01\" 1 plus 1 -> 1"
       ∷ codes "2 1.3 . getoradd \"SVC01\" 0 -> 1"
       ∷ codes "3 1.4 + addorupdate \"SVC01\" 1 max 7 -> 7"
-      ∷ codes "3 1.5 . tryadd \"svc01\" 1 -> false"
-      ∷ codes "4 1.6 + tryremove \"svc01\" -> true 7"
-      ∷ codes "4 1.7 . tryremove \"svc01\" -> false"
-      ∷ codes "5 1.8 + addorupdate \"b\" 1 set 2 -> 1"
-      ∷ codes "6 1.9 + addorupdate \"b\" 1 set \"c\" -> \"c\""
-      ∷ codes "6 1.10 . addorupdate \"b\" 1 plus 5 -> \"c\""
+      ∷ codes "final 1: \"SVC01\"=7"
+      ∷ codes "worker 1"
+      ∷ codes "end"
+      ∷ [];
+}
+
+-- a key that is present, removed and absent
+abbrev pub removed : ReportExample
+removed = record {
+  script = record {
+    version = 1;
+    cells = record { name = codes "R"; kind = kinds.Dict equalities.NoCase; values = values.Pairs ((Text (codes "a"), Int (pos 7)) ∷ []) } ∷ [];
+    parts =
+        record {
+          commands =
+              commands.TryAdd (codes "R") (Text (codes "A")) (Int (pos 1))
+              ∷ commands.TryRemove (codes "R") (Text (codes "A"))
+              ∷ commands.TryRemove (codes "R") (Text (codes "A"))
+              ∷ [];
+        }
+        ∷ [];
+  };
+  lines =
+      codes "immrun report 1"
+      ∷ codes "workers 1"
+      ∷ codes "cell R dict nocase"
+      ∷ codes "first 1: \"a\"=7"
+      ∷ codes "0 1.1 . tryadd \"A\" 1 -> false"
+      ∷ codes "1 1.2 + tryremove \"A\" -> true 7"
+      ∷ codes "1 1.3 . tryremove \"A\" -> false"
+      ∷ codes "final 0:"
+      ∷ codes "worker 1"
+      ∷ codes "end"
+      ∷ [];
+}
+
+-- what becomes of a text
+abbrev pub transformed_texts : ReportExample
+transformed_texts = record {
+  script = record {
+    version = 1;
+    cells = record { name = codes "R"; kind = kinds.Dict equalities.Ordinal; values = values.Pairs [] } ∷ [];
+    parts =
+        record {
+          commands =
+              commands.AddOrUpdate (codes "R") (Text (codes "b")) (Int (pos 1)) (Set (Int (pos 2)))
+              ∷ commands.AddOrUpdate (codes "R") (Text (codes "b")) (Int (pos 1)) (Set (Text (codes "c")))
+              ∷ commands.AddOrUpdate (codes "R") (Text (codes "b")) (Int (pos 1)) (Plus (pos 5))
+              ∷ [];
+        }
+        ∷ [];
+  };
+  lines =
+      codes "immrun report 1"
+      ∷ codes "workers 1"
+      ∷ codes "cell R dict ordinal"
+      ∷ codes "first 0:"
+      ∷ codes "1 1.1 + addorupdate \"b\" 1 set 2 -> 1"
+      ∷ codes "2 1.2 + addorupdate \"b\" 1 set \"c\" -> \"c\""
+      ∷ codes "2 1.3 . addorupdate \"b\" 1 plus 5 -> \"c\""
       ∷ codes "final 1: \"b\"=\"c\""
       ∷ codes "worker 1"
       ∷ codes "end"
@@ -287,4 +370,4 @@ stack_calls = record {
 }
 
 abbrev pub report_examples : List ReportExample
-report_examples = adding_and_reading ∷ equal_value_installs ∷ queue_emptied ∷ greatest_sum ∷ publications ∷ two_parts ∷ dictionary_calls ∷ stack_calls ∷ []
+report_examples = adding_and_reading ∷ read_between ∷ equal_value_installs ∷ queue_emptied ∷ greatest_sum ∷ publications ∷ two_parts ∷ added_and_updated ∷ removed ∷ transformed_texts ∷ stack_calls ∷ []

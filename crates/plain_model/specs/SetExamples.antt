@@ -155,5 +155,74 @@ spellings = record {
       ∷ [];
 }
 
+-- queries of sets; operations that keep the set; the first of same elements under another comparer
+abbrev pub set_edges : Example
+set_edges = record {
+  commands =
+      commands.New (codes "s") (kinds.SSet orders.NoCase) (texts (codes "b" ∷ codes "A" ∷ [])) None
+      ∷ commands.Show (codes "s")
+      ∷ commands.Ask (codes "s") (queries.Get 1) None
+      ∷ commands.Ask (codes "s") (queries.Get 2) None
+      ∷ commands.Ask (codes "s") (queries.IndexOf (Text (codes "B"))) None
+      ∷ commands.Ask (codes "s") queries.Max None
+      ∷ commands.New (codes "e") (kinds.SSet orders.Ordinal) (values.List []) None
+      ∷ commands.Ask (codes "e") queries.Min None
+      ∷ commands.Ask (codes "e") queries.Max None
+      ∷ commands.Ask (codes "s") (queries.Superset (values.List (Text (codes "a") ∷ []))) None
+      ∷ commands.Ask (codes "s") (queries.Superset (texts (codes "a" ∷ codes "c" ∷ []))) None
+      ∷ commands.Ask (codes "s") (queries.Overlaps (texts (codes "c" ∷ codes "B" ∷ []))) None
+      ∷ commands.Ask (codes "s") (queries.Overlaps (values.List (Text (codes "c") ∷ []))) None
+      ∷ commands.Ask (codes "s") (queries.SetEquals (values.List (Text (codes "a") ∷ []))) None
+      ∷ commands.Ask (codes "s") (queries.Subset (values.List (Text (codes "a") ∷ []))) None
+      ∷ commands.Ask (codes "s") (queries.ProperSubset (texts (codes "a" ∷ codes "b" ∷ codes "c" ∷ []))) None
+      ∷ commands.Let (codes "t") (codes "s") (ops.Intersect (texts (codes "a" ∷ codes "B" ∷ []))) None
+      ∷ commands.Let (codes "u") (codes "s") (ops.Except (values.List (Text (codes "c") ∷ []))) None
+      ∷ commands.Let (codes "v") (codes "s") (ops.SymExcept (values.List [])) None
+      ∷ commands.Let (codes "w") (codes "s") (ops.Add (Text (codes "a"))) None
+      ∷ commands.Show (codes "w")
+      ∷ commands.Let (codes "x") (codes "s") (ops.Remove (Text (codes "a"))) None
+      ∷ commands.Show (codes "x")
+      ∷ commands.New (codes "r") (kinds.SSet orders.Reverse) (texts (codes "A" ∷ codes "a" ∷ [])) None
+      ∷ commands.Rekey (codes "m") (codes "r") comparers.NoCase
+      ∷ commands.Show (codes "m")
+      ∷ commands.New (codes "h") (kinds.HSet equalities.NoCase) (texts (codes "B" ∷ codes "a" ∷ [])) None
+      ∷ commands.Walk (codes "k") (codes "h")
+      ∷ commands.Next (codes "k")
+      ∷ commands.Next (codes "k")
+      ∷ [];
+  lines =
+      codes "1.1 new s sset nocase \"b\" \"A\" -> 2"
+      ∷ codes "1.2 show s -> 2: \"A\" \"b\""
+      ∷ codes "1.3 ask s get 1 -> \"b\""
+      ∷ codes "1.4 ask s get 2 -> refused outofrange 2 2"
+      ∷ codes "1.5 ask s indexof \"B\" -> 1"
+      ∷ codes "1.6 ask s max -> \"b\""
+      ∷ codes "1.7 new e sset ordinal -> 0"
+      ∷ codes "1.8 ask e min -> none"
+      ∷ codes "1.9 ask e max -> none"
+      ∷ codes "1.10 ask s superset \"a\" -> true"
+      ∷ codes "1.11 ask s superset \"a\" \"c\" -> false"
+      ∷ codes "1.12 ask s overlaps \"c\" \"B\" -> true"
+      ∷ codes "1.13 ask s overlaps \"c\" -> false"
+      ∷ codes "1.14 ask s setequals \"a\" -> false"
+      ∷ codes "1.15 ask s subset \"a\" -> false"
+      ∷ codes "1.16 ask s propersubset \"a\" \"b\" \"c\" -> true"
+      ∷ codes "1.17 let t s intersect \"a\" \"B\" -> same"
+      ∷ codes "1.18 let u s except \"c\" -> same"
+      ∷ codes "1.19 let v s symexcept -> same"
+      ∷ codes "1.20 let w s add \"a\" -> same"
+      ∷ codes "1.21 show w -> 2: \"A\" \"b\""
+      ∷ codes "1.22 let x s remove \"a\" -> new"
+      ∷ codes "1.23 show x -> 1: \"b\""
+      ∷ codes "1.24 new r sset reverse \"A\" \"a\" -> 2"
+      ∷ codes "1.25 rekey m r nocase -> new"
+      ∷ codes "1.26 show m -> 1: \"A\""
+      ∷ codes "1.27 new h hset nocase \"B\" \"a\" -> 2"
+      ∷ codes "1.28 walk k h -> ok"
+      ∷ codes "1.29 next k -> true \"a\""
+      ∷ codes "1.30 next k -> true \"B\""
+      ∷ [];
+}
+
 abbrev pub set_examples : List Example
-set_examples = one_hash ∷ reverse_set ∷ hash_order ∷ spellings ∷ []
+set_examples = one_hash ∷ reverse_set ∷ hash_order ∷ spellings ∷ set_edges ∷ []

@@ -151,5 +151,32 @@ many_walks = record {
       ∷ [];
 }
 
+-- a place that is given back is taken again, and a refused handle is nobody's
+abbrev pub places_again : Example
+places_again = record {
+  commands =
+      commands.New (codes "x") kinds.List (values.List (Int (pos 1) ∷ [])) None
+      ∷ replicate 35 (commands.Walk (codes "v") (codes "x"))
+      ++ commands.Walk (codes "u") (codes "x")
+      ∷ commands.Next (codes "u")
+      ∷ commands.Dispose (codes "u")
+      ∷ commands.Dispose (codes "v")
+      ∷ commands.Walk (codes "u") (codes "x")
+      ∷ commands.Next (codes "u")
+      ∷ commands.Walk (codes "u") (codes "x")
+      ∷ [];
+  lines =
+      codes "1.1 new x list 1 -> 1"
+      ∷ map (λ k. codes "1." ++ decimal k ++ codes " walk v x -> ok") (numbers_from 2 35)
+      ++ codes "1.37 walk u x -> refused poolfull"
+      ∷ codes "1.38 next u -> refused disposed"
+      ∷ codes "1.39 dispose u -> refused disposed"
+      ∷ codes "1.40 dispose v -> ok"
+      ∷ codes "1.41 walk u x -> ok"
+      ∷ codes "1.42 next u -> true 1"
+      ∷ codes "1.43 walk u x -> refused poolfull"
+      ∷ [];
+}
+
 abbrev pub walk_examples : List Example
-walk_examples = many_walks ∷ changed_builder ∷ shared_walk ∷ lost_handles ∷ []
+walk_examples = places_again ∷ many_walks ∷ changed_builder ∷ shared_walk ∷ lost_handles ∷ []

@@ -141,7 +141,6 @@ fn put_worker(text: &mut String, worker: usize, locals: &[LocalLine]) -> Result<
 }
 
 fn put_workers(text: &mut String, workers: &[Listed<LocalLine>]) -> Result<(), AllocError>
-    requires { length workers.now < 2 ^ 32 }
     ensures { OnOk result (string_bytes text.new ≡ string_bytes text.old ++ workers_text 1 workers.now) }
 {
     let mut worker = 0;
@@ -166,7 +165,6 @@ fn put_worker_count(text: &mut String, workers: u32) -> Result<(), AllocError>
 
 /// The text of a report.
 pub fn report_text(alloc: Global, report: &Report) -> Result<Vec<u8>, Memory>
-    requires { length report.now.locals < 2 ^ 32 }
     ensures { IfOk result (λ text. text.items ≡ report_text report.now) }
 {
     let mut text = String::new(alloc);

@@ -1,5 +1,5 @@
-use Rattle.plain_model.proofs.ExamplesHold.{lists_hold, sets_hold, maps_hold, builders_hold, frozen_hold, walks_hold, reports_hold, limits_hold}
-use Rattle.plain_model.proofs.LawfulExamples.{lawful_hold}
+use Rattle.plain_model.proofs.ExamplesHold.{lists_hold, sets_hold, maps_hold, builders_hold, frozen_hold, walks_hold, limits_hold}
+use Rattle.plain_model.proofs.LawfulExamples.{lawful_hold, reports_hold}
 use Rattle.plain_model.proofs.examples.examples_hold.Goals as goal
 
 pub returns : goal.returns
