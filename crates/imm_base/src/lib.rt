@@ -14,6 +14,8 @@ mod outside;
 mod pair;
 mod pure;
 mod std_streams;
+#[cfg(test)]
+mod tests;
 mod text24;
 mod val;
 
