@@ -3,7 +3,7 @@ ghost use Rattle.std.specs.Prelude.{◌≡◌, ℕ, ◌+◌, IfOk};
 
 use imm_base::Memory;
 
-/// A value with two meanings: a plain value, which histories hold, and a relation between the plain values of neighbouring versions.
+/// What a cell keeps. It has a plain value, which histories hold; a plain value has a position, and may follow another one.
 pub trait Payload: Drop {
     type Plain;
 
@@ -14,10 +14,11 @@ pub trait Payload: Drop {
     // The pass with this number may install the second value on the first.
     ghost follows: { ℕ → Self.Plain → Self.Plain → Type 0 };
 
+    /// 0 at the value that a cell begins with, and one more at each that follows.
     fn position(&self) -> u64
         ensures { result ≡ position_of (plain self.now) };
 
-    /// A payload with the same plain value.
+    /// A payload with the same plain value. No clause says when there is no memory for it.
     fn share(&self) -> Result<Self, Memory>
         ensures { IfOk result (λ r. plain r ≡ plain self.now) };
 
