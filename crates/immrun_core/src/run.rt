@@ -32,7 +32,8 @@ fn list_of(elements: Listed<Val>) -> Plain
     }
 }
 
-/// The report of a script with one worker.
+/// The report of a script with one worker, on the calling thread. `Err` is want of memory, and no
+/// clause says when it comes.
 pub fn run_one(alloc: Global, script: &Script) -> Result<Report, Memory>
     requires { IsRunnable script.now }
     ensures { IfOk result (λ report. Lawful script.now 1 report) }
