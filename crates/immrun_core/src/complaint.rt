@@ -5,10 +5,10 @@ ghost use Rattle.immrun_core.specs.Outside.{WriteEnd, sink_ends};
 ghost use Rattle.immrun_core.specs.Status.{fault_line, reason};
 ghost use Rattle.immrun_core.specs.Top.{Told};
 
+use crate::digits::{MAX_DIGITS, digits_from, write_digits};
 use crate::status::Status;
 use crate::streams::{write_all, write_pieces};
 use imm_base::{Failed, Sink};
-use itoa::Buffer;
 
 fn reason(code: u8) -> &'static [u8]
     ensures { result.now ≡ reason code }
@@ -28,13 +28,15 @@ fn reason(code: u8) -> &'static [u8]
 fn write_refusal<E: Sink>(faults: &mut E, line: u32, code: u8) -> Result<(), Failed>
     ensures { WriteEnd (sink_ends E.taken E.faults faults.old faults.new) (fault_line (Refused line code)) result }
 {
-    let mut line_digits = Buffer::new();
-    let mut code_digits = Buffer::new();
+    let mut line_digits = [0; MAX_DIGITS];
+    let mut code_digits = [0; MAX_DIGITS];
+    let line_start = write_digits(line, &mut line_digits);
+    let code_start = write_digits(u32::from(code), &mut code_digits);
     let pieces: [&[u8]; 7] = [
         b"refused line ",
-        line_digits.format(line).as_bytes(),
+        digits_from(&line_digits, line_start),
         b": ",
-        code_digits.format(code).as_bytes(),
+        digits_from(&code_digits, code_start),
         b" ",
         reason(code),
         b"\n",

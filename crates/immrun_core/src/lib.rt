@@ -2,6 +2,7 @@
 #![tactic(auto)]
 
 mod complaint;
+mod digits;
 mod program;
 mod run;
 mod running;

@@ -16,6 +16,8 @@ line_is line code a b w p q r =
 pub returns : goal.returns
 returns g c =
     let w = c.write_pieces in
+    let line = c.write_digits-line_start in
+    let code = c.write_digits-code_start in
     subst (λ text. WriteEnd (sink_ends g.E.Sink.taken g.E.Sink.faults c.args.faults.now w.new.sink) text w.result)
-    (line_is c.args.line c.args.code c.as_bytes.result.now c.as_bytes-2.result.now c.reason.result.now
-    (c.as_bytes.ensures.value ∙ c.format.ensures.text) (c.as_bytes-2.ensures.value ∙ c.format-2.ensures.text) c.reason.ensures) w.ensures.write
+    (line_is c.args.line c.args.code c.digits_from.result.now c.digits_from-2.result.now c.reason.result.now
+    (c.digits_from.ensures ∙ line.ensures.written) (c.digits_from-2.ensures ∙ code.ensures.written ∙ ap decimal c.from.ensures) c.reason.ensures) w.ensures.write

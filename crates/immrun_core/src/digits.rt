@@ -1,0 +1,30 @@
+//! Numbers in decimal, without memory.
+ghost use Rattle.std.specs.Prelude.{◌≡◌, ◌≤◌, decimal, drop, length};
+
+/// The most digits of a number of 32 bits.
+pub const MAX_DIGITS: usize = 10;
+
+/// Writes a number so that its digits end where the buffer ends, and answers where they begin.
+pub fn write_digits(number: u32, into: &mut [u8; MAX_DIGITS]) -> usize
+    ensures written { drop result into.new ≡ decimal number }
+    ensures within { result ≤ 10 }
+{
+    let mut left = number;
+    let mut start = MAX_DIGITS;
+    'digits: while left >= 10 {
+        start -= 1;
+        into[start] = b'0' + (left % 10) as u8;
+        left /= 10;
+    }
+    start -= 1;
+    into[start] = b'0' + left as u8;
+    start
+}
+
+/// The digits that begin there.
+pub fn digits_from(bytes: &[u8], start: usize) -> &[u8]
+    requires { start ≤ length bytes.now }
+    ensures { result.now ≡ drop start bytes.now }
+{
+    &bytes[start..]
+}
