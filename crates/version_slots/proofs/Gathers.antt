@@ -1,7 +1,6 @@
 -- What a seat has of the passes that were joined into it.
-use Rattle.std.proofs.Common.{◌≡◌, ℕ, zero, suc, List, [], ◌∷◌, ◌++◌, length, ap, ◌∙◌, sym}
+use Rattle.std.proofs.Common.{◌≡◌, zero, suc, List, [], ◌∷◌, length, ap, ◌∙◌, sym}
 use mathlib.Core.Option.{some, some-injective, some-ne-none}
-use lib.ListN.{get_elem?}
 use Rattle.atomic_table.proofs.Lists.{at_longer}
 use Rattle.version_slots.specs.declared.view.View.{View}
 use Rattle.version_slots.specs.Views.{joined, old}

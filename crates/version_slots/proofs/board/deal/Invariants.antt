@@ -1,4 +1,4 @@
-use Rattle.std.proofs.Common.{◌≡◌, ℕ, ◌+◌, ◌-◌, ◌≤◌, [], map, length, vec_capacity}
+use Rattle.std.proofs.Common.{◌≡◌, ◌+◌, ◌-◌, ◌≤◌, [], map, length, vec_capacity}
 use Rattle.std.specs.Prelude.{All}
 use Rattle.version_slots.specs.Views.{counting, first_view}
 use Rattle.version_slots.specs.Cells.{new_view}

@@ -1,5 +1,4 @@
-use Rattle.std.proofs.Common.{rules, arith, ◌≡◌, ℕ, ◌<◌, List, [], ◌∷◌, ◌++◌, map, length, refl, sym, ap, ◌∙◌, subst, append_assoc, Some, None}
-use Rattle.std.specs.Prelude.{All}
+use Rattle.std.proofs.Common.{rules, ◌≡◌, List, [], ◌∷◌, ◌++◌, map, sym, ap, ◌∙◌, subst, append_assoc, Some}
 use Rattle.std.proofs.lemmas.List.Elements.{All-pop}
 use Rattle.version_slots.specs.declared.view.View.{View}
 use Rattle.version_slots.specs.declared.tokens.Pass.{Pass}

@@ -1,4 +1,4 @@
-use Rattle.std.proofs.Common.{◌≡◌, ℕ, List, ◌++◌, map, vec_len}
+use Rattle.std.proofs.Common.{◌≡◌, List, ◌++◌, map, vec_len}
 use Rattle.std.specs.Prelude.{All}
 use Rattle.version_slots.specs.declared.tokens.Pass.{Pass}
 use Rattle.version_slots.specs.Cells.{IsIdle, AreIn, olds_of}

@@ -1,4 +1,4 @@
-use Rattle.std.proofs.Common.{arith, ℕ}
+use Rattle.std.proofs.Common.{arith}
 use Rattle.version_slots.proofs.tests.a_refused_share_gives_the_payload_back.Goals as goal
 
 pub propose-requires-2-clause-base : goal.propose-requires-2-clause-base

@@ -1,4 +1,4 @@
-use Rattle.std.proofs.Common.{arith, ℕ}
+use Rattle.std.proofs.Common.{arith}
 use Rattle.version_slots.proofs.tests.finish.Goals as goal
 
 pub close-requires-clause-all : goal.close-requires-clause-all

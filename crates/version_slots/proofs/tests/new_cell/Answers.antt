@@ -1,4 +1,3 @@
-use Rattle.std.proofs.Common.{ℕ}
 use Rattle.version_slots.specs.declared.view.View.{View}
 use Rattle.version_slots.specs.declared.tokens.Pass.{Pass}
 use Rattle.version_slots.specs.Cells.{IsIdle, new_views}

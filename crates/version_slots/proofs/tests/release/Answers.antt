@@ -1,4 +1,4 @@
-use Rattle.std.proofs.Common.{◌≡◌, ℕ, List, sym, ap, ◌∙◌, subst}
+use Rattle.std.proofs.Common.{◌≡◌, List, sym, ap, ◌∙◌, subst}
 use Rattle.version_slots.specs.declared.view.View.{View}
 use Rattle.version_slots.specs.declared.view.Line.{Line}
 use Rattle.version_slots.specs.declared.tokens.Front.{Front}

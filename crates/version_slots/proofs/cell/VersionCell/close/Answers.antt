@@ -1,10 +1,9 @@
-use Rattle.std.proofs.Common.{rules, arith, ◌≡◌, ℕ, ◌+◌, ◌*◌, ◌<◌, ◌≤◌, List, map, length, refl, sym, ap, ◌∙◌, subst, Some}
+use Rattle.std.proofs.Common.{arith, ℕ, ◌*◌, map, sym, ap, ◌∙◌, subst}
 use Rattle.std.specs.Mem.Slots.{slots_items, slots_counts}
 use mathlib.Core.Option.{some}
 use lib.ListN.{get_elem?}
 use Rattle.version_slots.specs.declared.view.View.{View}
 use Rattle.version_slots.specs.declared.tokens.Pass.{Pass}
-use Rattle.version_slots.specs.Words.{head_word}
 use Rattle.version_slots.specs.Closing.{Closing}
 use Rattle.version_slots.specs.Cells.{AreAll}
 use Rattle.version_slots.proofs.Rows.{map_at}
