@@ -1,6 +1,7 @@
 -- The reports of the examples are lawful.
-use Rattle.std.specs.Prelude.{pos, map, length, ◌≡◌, refl, ℕ, zero, suc, ◌+◌, ◌<◌, ◌≤◌, ◌⊎◌, [], ◌∷◌, slice_get}
+use Rattle.std.specs.Prelude.{true, false, pos, map, length, ◌≡◌, refl, ℕ, zero, suc, ◌+◌, ◌<◌, ◌≤◌, ◌⊎◌, [], ◌∷◌, slice_get}
 use Rattle.std.specs.List.{AllByRecursion}
+use Rattle.std.specs.declared.cmp.Ordering.TheVariants.{Less, Greater}
 use Rattle.std.specs.Fmt.{digits}
 use Rattle.std.proofs.Common.{arith, true≢false, inl, inr}
 use Rattle.plain_model.specs.Lawful.{Lawful, Worked, parts_of, IsRun}
@@ -8,12 +9,12 @@ use Rattle.plain_model.specs.History.{InOrder}
 use Rattle.plain_model.specs.declared.history.Reply.TheVariants as replies
 use Rattle.imm_base.specs.declared.val.Val.TheVariants.{Int}
 use Rattle.imm_base.specs.declared.comparers.ValEq.TheVariants as equalities
-use Rattle.plain_model.specs.Plain.{pairs}
+use Rattle.plain_model.specs.Plain.{pairs, IsPlain}
 use Rattle.plain_model.specs.Frozen.{numbers_from, frozen_pairs}
 use Rattle.plain_model.specs.Work.{work_from}
 use Rattle.plain_model.proofs.Alone.{alone}
 use Rattle.plain_model.specs.ReportExamples.{ReportExample, IsTold, report_examples, adding_and_reading, read_between, equal_value_installs, queue_emptied, greatest_sum, publications, two_parts, added_and_updated, removed, transformed_texts, stack_calls}
-use Rattle.plain_model.specs.LawfulExamples.{LawfulExamples, wanting_cell, nothing_script, nothing_report, wanting_script, wanting_report, registry, service, HasLines, nothing_lines, second_wins_lines, reading, seen}
+use Rattle.plain_model.specs.LawfulExamples.{LawfulExamples, two_spellings, falling, wanting_cell, nothing_script, nothing_report, wanting_script, wanting_report, registry, service, HasLines, nothing_lines, second_wins_lines, reading, seen}
 
 abbrev IsLawfulAlone : ReportExample → Type 0
 IsLawfulAlone e = Lawful e.script 1 (alone e.script)
@@ -191,6 +192,12 @@ nobody run = let h : 1 ≤ 0 = run.callers.0.0 in omega (arith, h)
 another_reply : IsRun 1 (seen (record (reading 1 1) { reply = replies.Count 1 })) → ⊥
 another_reply run = let h : replies.Count 1 ≡ replies.Count 0 = run.legal.steps.0.reply in cc
 
+not_two_spellings : IsPlain two_spellings → ⊥
+not_two_spellings is = let h : true ≡ false = is.kept.distinct.0 in true≢false h
+
+not_falling : IsPlain falling → ⊥
+not_falling is = let h : Greater ≡ Less = is.kept.rises.0.0 in cc
+
 registered_installs : registry.0 ≡ 200
 registered_installs = refl
 
@@ -249,5 +256,9 @@ lawful_hold = record {
   stranger = stranger;
   nobody = nobody;
   another_reply = another_reply;
+  most_published = refl;
+  more_published = refl;
+  two_spellings = not_two_spellings;
+  falling = not_falling;
   registered = record { installs = registered_installs; finals = registered_finals; frozen = registered_frozen };
 }

@@ -1,8 +1,9 @@
 -- Reports that are lawful, and what they have in them.
-use Rattle.std.specs.Prelude.{◌≡◌, ◌+◌, ◌/◌, ◌%◌, ℕ, pos, List, [], ◌∷◌, ◌++◌, length, map, fold, codes, Bool, true, false, Option, Some, None}
+use Rattle.std.specs.Prelude.{◌≡◌, ◌+◌, ◌/◌, ◌%◌, ℕ, pos, List, [], ◌∷◌, ◌++◌, length, map, fold, codes, Bool, true, false, Option, Some, None, option_map}
 use Rattle.std.specs.List.{flat_map}
 use Rattle.imm_base.specs.declared.val.Val.{Val}
 use Rattle.imm_base.specs.declared.val.Val.TheVariants.{Int, Text}
+use Rattle.imm_base.specs.declared.comparers.ValOrder.TheVariants as orders
 use Rattle.imm_base.specs.declared.comparers.ValEq.TheVariants as equalities
 use Rattle.plain_model.specs.declared.plain.Kind.TheVariants as kinds
 use Rattle.plain_model.specs.declared.plain.Plain.{Plain}
@@ -18,7 +19,9 @@ use Rattle.plain_model.specs.declared.report.CellDecl.{CellDecl}
 use Rattle.plain_model.specs.declared.report.CellReport.{CellReport}
 use Rattle.plain_model.specs.declared.report.Report.{Report}
 use Rattle.plain_model.specs.declared.report.Script.{Script}
-use Rattle.plain_model.specs.Plain.{pairs, nothing}
+use Rattle.plain_model.specs.Plain.{elements, pairs, nothing, IsPlain}
+use Rattle.plain_model.specs.Locals.{bind, collection, no_locals}
+use Rattle.plain_model.specs.Work.{Deed, local_line, on_cell, deed_of}
 use Rattle.plain_model.specs.Frozen.{numbers_from, frozen_pairs}
 use Rattle.plain_model.specs.Text.{report_text, end_line}
 use Rattle.plain_model.specs.Lawful.{IsRun, Lawful}
@@ -92,6 +95,25 @@ nothing_yet = record { kind = kinds.List; values = values.List [] }
 abbrev pub seen : Line → CellReport
 seen l = record { cell = record { name = codes "A"; kind = kinds.List; values = values.List [] }; first = nothing_yet; lines = l ∷ []; last = nothing_yet }
 
+-- ---- publications
+
+abbrev pub is_call : Deed → Bool
+is_call (local_line l) = false
+is_call (on_cell name call) = true
+
+-- a list of n elements published: whether that is a call on the cell
+abbrev pub publishes : ℕ → Option Bool
+publishes n = option_map (λ d. is_call d.deed) (deed_of (seen (reading 1 1) ∷ []) 1 1 (commands.Publish (codes "A") (codes "x"))
+    (bind (codes "x") (collection (record { kind = kinds.List; values = values.List (elements (values.Seq (pos 0) n)) })) no_locals))
+
+-- ---- collections that are not well formed
+
+abbrev pub two_spellings : Plain
+two_spellings = record { kind = kinds.HSet equalities.NoCase; values = values.List (Text (codes "A") ∷ Text (codes "a") ∷ []) }
+
+abbrev pub falling : Plain
+falling = record { kind = kinds.SSet orders.Ordinal; values = values.List (Int (pos 2) ∷ Int (pos 1) ∷ []) }
+
 -- ---- a registry: four workers, one after another, count to four at each of forty names
 
 -- "svc" and two digits
@@ -136,4 +158,9 @@ pub record LawfulExamples : Type 0 where
   pub stranger : IsRun 2 (seen (reading 3 1)) → ⊥
   pub nobody : IsRun 2 (seen (reading 0 1)) → ⊥
   pub another_reply : IsRun 1 (seen (record (reading 1 1) { reply = replies.Count 1 })) → ⊥
+  -- at most 1,024 elements
+  pub most_published : publishes 1024 ≡ Some true
+  pub more_published : publishes 1025 ≡ Some false
+  pub two_spellings : IsPlain two_spellings → ⊥
+  pub falling : IsPlain falling → ⊥
   pub registered : IsRegistered

@@ -1,5 +1,5 @@
 -- Worked lines of maps.
-use Rattle.std.specs.Prelude.{pos, List, [], ◌∷◌, map, codes, None}
+use Rattle.std.specs.Prelude.{pos, List, [], ◌∷◌, codes, None}
 use Rattle.imm_base.specs.declared.val.Val.TheVariants.{Int, Text}
 use Rattle.imm_base.specs.declared.comparers.ValOrder.TheVariants as orders
 use Rattle.imm_base.specs.declared.comparers.ValEq.TheVariants as equalities
