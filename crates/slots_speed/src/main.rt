@@ -2,7 +2,7 @@
 //! `time`, it does much more, and also prints how many times a second.
 #![tactic(auto)]
 
-ghost use Rattle.std.specs.Prelude.{◌≡◌, ◌+◌, ◌<◌, ◌≤◌, [], ◌∷◌, All, map, vec_capacity};
+ghost use Rattle.std.specs.Prelude.{◌≡◌, ◌+◌, ◌≤◌, [], All, IfOk, cond, length, map, vec_capacity};
 ghost use Rattle.version_slots.specs.Histories.{Shown};
 ghost use Rattle.version_slots.specs.Tokens.{Pins, Proposed};
 ghost use Rattle.version_slots.specs.Cells.{AreAll, IsIdle, new_views};
@@ -89,6 +89,7 @@ fn release(
 ) -> (Base, u64)
     requires { (pass.old.place.table_id ≡ cell.now.table.shared.table_id) × (pass.old.place.me.0.hold ≡ Empty) × Pins pass.old.place.me.0 pinned.front pinned.payload.value }
     ensures pass { (pass.new.place.table_id ≡ cell.now.table.shared.table_id) × IsIdle pass.new.place.me.0 × (pass.new.place.me.0.number ≡ pass.old.place.me.0.number) }
+    ensures mine { pass.new.place.me.0.mine ≡ pass.old.place.me.0.mine }
     ensures base { Shown pass.new.place.me.0.seen result.0.front.ticket result.0.front.slot result.1 }
 {
     let base = pinned.base();
@@ -108,6 +109,7 @@ fn install_on(
     requires pass { (pass.old.place.table_id ≡ cell.now.table.shared.table_id) × IsIdle pass.old.place.me.0 }
     requires base { Shown pass.old.place.me.0.seen base.front.ticket base.front.slot value }
     ensures pass { (pass.new.place.table_id ≡ cell.now.table.shared.table_id) × IsIdle pass.new.place.me.0 × (pass.new.place.me.0.number ≡ pass.old.place.me.0.number) }
+    ensures mine { length pass.new.place.me.0.mine ≡ length pass.old.place.me.0.mine + cond result 1 0 }
 {
     let Some(next) = value.checked_add(1) else {
         return false;
@@ -119,15 +121,17 @@ fn install_on(
 }
 
 /// How many of the tries pinned a version, and let it go.
-fn pin_often(cell: &VersionCell<Number>, pass: &mut Pass<Number>, tries: u32) -> u64
+fn pin_often(cell: &VersionCell<Number>, pass: &mut Pass<Number>, tries: u32) -> u32
     requires { (pass.old.place.table_id ≡ cell.now.table.shared.table_id) × IsIdle pass.old.place.me.0 }
-    ensures { (pass.new.place.table_id ≡ cell.now.table.shared.table_id) × IsIdle pass.new.place.me.0 × (pass.new.place.me.0.number ≡ pass.old.place.me.0.number) }
+    ensures pass { (pass.new.place.table_id ≡ cell.now.table.shared.table_id) × IsIdle pass.new.place.me.0 × (pass.new.place.me.0.number ≡ pass.old.place.me.0.number) }
+    ensures mine { pass.new.place.me.0.mine ≡ pass.old.place.me.0.mine }
+    ensures tried { result ≤ tries }
 {
-    let mut done = 0u64;
+    let mut done = 0u32;
     for _ in 0..tries {
         if let Ok(pinned) = cell.pin(pass) {
             let _ = release(cell, pass, pinned);
-            done = done.saturating_add(1);
+            done += 1;
         }
     }
     done
@@ -139,16 +143,18 @@ fn install_often(
     cell: &VersionCell<Number>,
     pass: &mut Pass<Number>,
     tries: u32,
-) -> u64
+) -> u32
     requires { (pass.old.place.table_id ≡ cell.now.table.shared.table_id) × IsIdle pass.old.place.me.0 }
-    ensures { (pass.new.place.table_id ≡ cell.now.table.shared.table_id) × IsIdle pass.new.place.me.0 × (pass.new.place.me.0.number ≡ pass.old.place.me.0.number) }
+    ensures pass { (pass.new.place.table_id ≡ cell.now.table.shared.table_id) × IsIdle pass.new.place.me.0 × (pass.new.place.me.0.number ≡ pass.old.place.me.0.number) }
+    ensures mine { length pass.new.place.me.0.mine ≡ length pass.old.place.me.0.mine + result }
+    ensures tried { result ≤ tries }
 {
-    let mut done = 0u64;
+    let mut done = 0u32;
     for _ in 0..tries {
         if let Ok(pinned) = cell.pin(pass) {
             let (base, value) = release(cell, pass, pinned);
             if install_on(alloc, cell, pass, base, value) {
-                done = done.saturating_add(1);
+                done += 1;
             }
         }
     }
@@ -162,24 +168,24 @@ fn pin_on_two<R: Threads + Sync>(
     first: &mut Pass<Number>,
     second: &mut Pass<Number>,
     tries: u32,
-) -> u64
+) -> (u32, u32)
     requires first { (first.old.place.table_id ≡ cell.now.table.shared.table_id) × IsIdle first.old.place.me.0 }
     requires second { (second.old.place.table_id ≡ cell.now.table.shared.table_id) × IsIdle second.old.place.me.0 }
     ensures first { (first.new.place.table_id ≡ cell.now.table.shared.table_id) × IsIdle first.new.place.me.0 × (first.new.place.me.0.number ≡ first.old.place.me.0.number) }
     ensures second { (second.new.place.table_id ≡ cell.now.table.shared.table_id) × IsIdle second.new.place.me.0 × (second.new.place.me.0.number ≡ second.old.place.me.0.number) }
+    ensures mine { (first.new.place.me.0.mine ≡ first.old.place.me.0.mine) × (second.new.place.me.0.mine ≡ second.old.place.me.0.mine) }
 {
-    let (one, two) = join_mut(
+    join_mut(
         rt,
         &mut ||
             requires { (first.now.place.table_id ≡ cell.now.table.shared.table_id) × IsIdle first.now.place.me.0 }
-            ensures { (first.exit.now.place.table_id ≡ cell.entry.now.table.shared.table_id) × IsIdle first.exit.now.place.me.0 × (first.exit.now.place.me.0.number ≡ first.entry.now.place.me.0.number) }
+            ensures { (first.exit.now.place.table_id ≡ cell.entry.now.table.shared.table_id) × IsIdle first.exit.now.place.me.0 × (first.exit.now.place.me.0.number ≡ first.entry.now.place.me.0.number) × (first.exit.now.place.me.0.mine ≡ first.entry.now.place.me.0.mine) }
         { pin_often(cell, first, tries) },
         &mut ||
             requires { (second.now.place.table_id ≡ cell.now.table.shared.table_id) × IsIdle second.now.place.me.0 }
-            ensures { (second.exit.now.place.table_id ≡ cell.entry.now.table.shared.table_id) × IsIdle second.exit.now.place.me.0 × (second.exit.now.place.me.0.number ≡ second.entry.now.place.me.0.number) }
+            ensures { (second.exit.now.place.table_id ≡ cell.entry.now.table.shared.table_id) × IsIdle second.exit.now.place.me.0 × (second.exit.now.place.me.0.number ≡ second.entry.now.place.me.0.number) × (second.exit.now.place.me.0.mine ≡ second.entry.now.place.me.0.mine) }
         { pin_often(cell, second, tries) },
-    );
-    one.saturating_add(two)
+    )
 }
 
 /// How many of the tries on two threads at once installed a version.
@@ -190,24 +196,24 @@ fn install_on_two<R: Threads + Sync>(
     first: &mut Pass<Number>,
     second: &mut Pass<Number>,
     tries: u32,
-) -> u64
+) -> (u32, u32)
     requires first { (first.old.place.table_id ≡ cell.now.table.shared.table_id) × IsIdle first.old.place.me.0 }
     requires second { (second.old.place.table_id ≡ cell.now.table.shared.table_id) × IsIdle second.old.place.me.0 }
     ensures first { (first.new.place.table_id ≡ cell.now.table.shared.table_id) × IsIdle first.new.place.me.0 × (first.new.place.me.0.number ≡ first.old.place.me.0.number) }
     ensures second { (second.new.place.table_id ≡ cell.now.table.shared.table_id) × IsIdle second.new.place.me.0 × (second.new.place.me.0.number ≡ second.old.place.me.0.number) }
+    ensures mine { (length first.new.place.me.0.mine ≡ length first.old.place.me.0.mine + result.0) × (length second.new.place.me.0.mine ≡ length second.old.place.me.0.mine + result.1) }
 {
-    let (one, two) = join_mut(
+    join_mut(
         rt,
         &mut ||
             requires { (first.now.place.table_id ≡ cell.now.table.shared.table_id) × IsIdle first.now.place.me.0 }
-            ensures { (first.exit.now.place.table_id ≡ cell.entry.now.table.shared.table_id) × IsIdle first.exit.now.place.me.0 × (first.exit.now.place.me.0.number ≡ first.entry.now.place.me.0.number) }
+            ensures { (first.exit.now.place.table_id ≡ cell.entry.now.table.shared.table_id) × IsIdle first.exit.now.place.me.0 × (first.exit.now.place.me.0.number ≡ first.entry.now.place.me.0.number) × (length first.exit.now.place.me.0.mine ≡ length first.entry.now.place.me.0.mine + result) }
         { install_often(alloc, cell, first, tries) },
         &mut ||
             requires { (second.now.place.table_id ≡ cell.now.table.shared.table_id) × IsIdle second.now.place.me.0 }
-            ensures { (second.exit.now.place.table_id ≡ cell.entry.now.table.shared.table_id) × IsIdle second.exit.now.place.me.0 × (second.exit.now.place.me.0.number ≡ second.entry.now.place.me.0.number) }
+            ensures { (second.exit.now.place.table_id ≡ cell.entry.now.table.shared.table_id) × IsIdle second.exit.now.place.me.0 × (second.exit.now.place.me.0.number ≡ second.entry.now.place.me.0.number) × (length second.exit.now.place.me.0.mine ≡ length second.entry.now.place.me.0.mine + result) }
         { install_often(alloc, cell, second, tries) },
-    );
-    one.saturating_add(two)
+    )
 }
 
 // How many were done, and how many a second, if times are asked for.
@@ -235,22 +241,23 @@ fn measure_one(
     cell: &VersionCell<Number>,
     pass: &mut Pass<Number>,
     tries: u32,
-) -> io::Result<u64>
+) -> io::Result<u32>
     requires { (pass.old.place.table_id ≡ cell.now.table.shared.table_id) × IsIdle pass.old.place.me.0 }
-    ensures { (pass.new.place.table_id ≡ cell.now.table.shared.table_id) × IsIdle pass.new.place.me.0 × (pass.new.place.me.0.number ≡ pass.old.place.me.0.number) }
+    ensures pass { (pass.new.place.table_id ≡ cell.now.table.shared.table_id) × IsIdle pass.new.place.me.0 × (pass.new.place.me.0.number ≡ pass.old.place.me.0.number) }
+    ensures mine { IfOk result (λ n. length pass.new.place.me.0.mine ≡ length pass.old.place.me.0.mine + n) }
 {
     let start = Instant::now(rt)?;
     let pins = pin_often(cell, pass, tries);
     println!(rt; "one thread: {pins} pins in {tries} tries")?;
-    show_rate(rt, is_timed, "pins", start, pins)?;
+    show_rate(rt, is_timed, "pins", start, u64::from(pins))?;
     let start = Instant::now(rt)?;
     let installs = install_often(alloc, cell, pass, tries);
     println!(rt; "one thread: {installs} installs in {tries} tries")?;
-    show_rate(rt, is_timed, "installs", start, installs)?;
+    show_rate(rt, is_timed, "installs", start, u64::from(installs))?;
     Ok(installs)
 }
 
-/// Measures on two threads, and answers how many versions were installed.
+/// Measures on two threads, and answers how many versions each pass installed.
 fn measure_two<R: Print + Clock + Threads + Sync>(
     rt: &R,
     alloc: Global,
@@ -259,21 +266,28 @@ fn measure_two<R: Print + Clock + Threads + Sync>(
     first: &mut Pass<Number>,
     second: &mut Pass<Number>,
     tries: u32,
-) -> io::Result<u64>
+) -> io::Result<(u32, u32)>
     requires first { (first.old.place.table_id ≡ cell.now.table.shared.table_id) × IsIdle first.old.place.me.0 }
     requires second { (second.old.place.table_id ≡ cell.now.table.shared.table_id) × IsIdle second.old.place.me.0 }
     ensures first { (first.new.place.table_id ≡ cell.now.table.shared.table_id) × IsIdle first.new.place.me.0 × (first.new.place.me.0.number ≡ first.old.place.me.0.number) }
     ensures second { (second.new.place.table_id ≡ cell.now.table.shared.table_id) × IsIdle second.new.place.me.0 × (second.new.place.me.0.number ≡ second.old.place.me.0.number) }
+    ensures mine { IfOk result (λ n. (length first.new.place.me.0.mine ≡ length first.old.place.me.0.mine + n.0) × (length second.new.place.me.0.mine ≡ length second.old.place.me.0.mine + n.1)) }
 {
     let start = Instant::now(rt)?;
-    let pins = pin_on_two(rt, cell, first, second, tries);
+    let (one, two) = pin_on_two(rt, cell, first, second, tries);
     println!(rt; "two threads: pins in {tries} tries each")?;
-    show_rate(rt, is_timed, "pins", start, pins)?;
+    show_rate(rt, is_timed, "pins", start, u64::from(one) + u64::from(two))?;
     let start = Instant::now(rt)?;
-    let installs = install_on_two(rt, alloc, cell, first, second, tries);
+    let (one, two) = install_on_two(rt, alloc, cell, first, second, tries);
     println!(rt; "two threads: installs in {tries} tries each")?;
-    show_rate(rt, is_timed, "installs", start, installs)?;
-    Ok(installs)
+    show_rate(
+        rt,
+        is_timed,
+        "installs",
+        start,
+        u64::from(one) + u64::from(two),
+    )?;
+    Ok((one, two))
 }
 
 /// How many versions were installed in all.
@@ -289,11 +303,12 @@ fn measure<R: Print + Clock + Threads + Sync>(
     requires second { (second.old.place.table_id ≡ cell.now.table.shared.table_id) × IsIdle second.old.place.me.0 }
     ensures first { (first.new.place.table_id ≡ cell.now.table.shared.table_id) × IsIdle first.new.place.me.0 × (first.new.place.me.0.number ≡ first.old.place.me.0.number) }
     ensures second { (second.new.place.table_id ≡ cell.now.table.shared.table_id) × IsIdle second.new.place.me.0 × (second.new.place.me.0.number ≡ second.old.place.me.0.number) }
+    ensures mine { IfOk result (λ n. length first.new.place.me.0.mine + length second.new.place.me.0.mine ≡ length first.old.place.me.0.mine + length second.old.place.me.0.mine + n) }
 {
     let tries = if is_timed { 400_000 } else { 1000 };
     let alone = measure_one(rt, alloc, is_timed, cell, first, tries)?;
-    let together = measure_two(rt, alloc, is_timed, cell, first, second, tries)?;
-    Ok(alone.saturating_add(together))
+    let (one, two) = measure_two(rt, alloc, is_timed, cell, first, second, tries)?;
+    Ok(u64::from(alone) + u64::from(one) + u64::from(two))
 }
 
 fn main(rt: HostRuntime) -> io::Result<()> {
