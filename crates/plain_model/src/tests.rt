@@ -18,7 +18,6 @@ fn idle(alloc: Global, workers: u32) -> Result<Report, Memory> {
 
 #[test]
 fn a_report_is_written(rt: HostRuntime) -> Result<(), Fail> {
-    examples_hold();
     let report = idle(rt.alloc(), 3)?;
     let bytes = report_text(rt.alloc(), &report)?;
     let want: &[u8] = b"immrun report 1\nworkers 3\nworker 1\nworker 2\nworker 3\nend\n";

@@ -12,9 +12,9 @@ use Rattle.imm_base.specs.declared.comparers.ValEq.TheVariants as equalities
 use Rattle.plain_model.specs.Plain.{pairs, IsPlain}
 use Rattle.plain_model.specs.Frozen.{numbers_from, frozen_pairs}
 use Rattle.plain_model.specs.Work.{work_from}
-use Rattle.plain_model.proofs.Alone.{alone}
-use Rattle.plain_model.specs.ReportExamples.{ReportExample, IsTold, report_examples, adding_and_reading, read_between, equal_value_installs, queue_emptied, greatest_sum, publications, two_parts, added_and_updated, removed, transformed_texts, stack_calls}
-use Rattle.plain_model.specs.LawfulExamples.{LawfulExamples, two_spellings, falling, wanting_cell, nothing_script, nothing_report, wanting_script, wanting_report, registry, service, HasLines, nothing_lines, second_wins_lines, reading, seen}
+use Rattle.worked_examples.proofs.Alone.{alone}
+use Rattle.worked_examples.specs.ReportExamples.{ReportExample, IsTold, report_examples, adding_and_reading, read_between, equal_value_installs, queue_emptied, greatest_sum, publications, two_parts, added_and_updated, removed, transformed_texts, stack_calls}
+use Rattle.worked_examples.specs.LawfulExamples.{LawfulExamples, two_spellings, falling, wanting_cell, nothing_script, nothing_report, wanting_script, wanting_report, registry, service, HasLines, nothing_lines, second_wins_lines, reading, seen}
 
 abbrev IsLawfulAlone : ReportExample → Type 0
 IsLawfulAlone e = Lawful e.script 1 (alone e.script)

@@ -2,14 +2,14 @@
 use Rattle.std.specs.Prelude.{refl}
 use Rattle.std.specs.List.{AllByRecursion}
 use Rattle.std.specs.Fmt.{digits}
-use Rattle.plain_model.specs.Examples.{Holds}
-use Rattle.plain_model.specs.ListExamples.{list_examples}
-use Rattle.plain_model.specs.SetExamples.{set_examples}
-use Rattle.plain_model.specs.MapExamples.{map_examples}
-use Rattle.plain_model.specs.BuilderExamples.{builder_examples}
-use Rattle.plain_model.specs.FrozenExamples.{frozen_examples}
-use Rattle.plain_model.specs.WalkExamples.{walk_examples}
-use Rattle.plain_model.specs.LimitExamples.{LimitExamples}
+use Rattle.worked_examples.specs.Examples.{Holds}
+use Rattle.worked_examples.specs.ListExamples.{list_examples}
+use Rattle.worked_examples.specs.SetExamples.{set_examples}
+use Rattle.worked_examples.specs.MapExamples.{map_examples}
+use Rattle.worked_examples.specs.BuilderExamples.{builder_examples}
+use Rattle.worked_examples.specs.FrozenExamples.{frozen_examples}
+use Rattle.worked_examples.specs.WalkExamples.{walk_examples}
+use Rattle.worked_examples.specs.LimitExamples.{LimitExamples}
 
 pub lists_hold : AllByRecursion Holds list_examples
 unfolding digits

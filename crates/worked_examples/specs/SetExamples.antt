@@ -9,7 +9,7 @@ use Rattle.plain_model.specs.declared.plain.Values.TheVariants as values
 use Rattle.plain_model.specs.declared.commands.PlainOp.TheVariants as ops
 use Rattle.plain_model.specs.declared.commands.Query.TheVariants as queries
 use Rattle.plain_model.specs.declared.commands.Command.TheVariants as commands
-use Rattle.plain_model.specs.Examples.{Example, texts}
+use Rattle.worked_examples.specs.Examples.{Example, texts}
 
 -- a hash set whose elements all have one hash
 abbrev pub one_hash : Example

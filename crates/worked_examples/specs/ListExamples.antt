@@ -10,7 +10,7 @@ use Rattle.plain_model.specs.declared.plain.Values.TheVariants as values
 use Rattle.plain_model.specs.declared.commands.PlainOp.TheVariants as ops
 use Rattle.plain_model.specs.declared.commands.Query.TheVariants as queries
 use Rattle.plain_model.specs.declared.commands.Command.TheVariants as commands
-use Rattle.plain_model.specs.Examples.{Example, texts}
+use Rattle.worked_examples.specs.Examples.{Example, texts}
 
 -- an index may be the count only where something is put
 abbrev pub places_within : Example

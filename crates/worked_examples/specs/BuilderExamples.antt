@@ -5,7 +5,7 @@ use Rattle.plain_model.specs.declared.plain.Kind.TheVariants as kinds
 use Rattle.plain_model.specs.declared.plain.Values.TheVariants as values
 use Rattle.plain_model.specs.declared.commands.PlainOp.TheVariants as ops
 use Rattle.plain_model.specs.declared.commands.Command.TheVariants as commands
-use Rattle.plain_model.specs.Examples.{Example}
+use Rattle.worked_examples.specs.Examples.{Example}
 
 -- moving and draining an array builder
 abbrev pub capacities : Example

@@ -5,7 +5,7 @@ use Rattle.imm_base.specs.declared.comparers.ValEq.TheVariants as equalities
 use Rattle.plain_model.specs.declared.plain.Values.TheVariants as values
 use Rattle.plain_model.specs.declared.commands.Query.TheVariants as queries
 use Rattle.plain_model.specs.declared.commands.Command.TheVariants as commands
-use Rattle.plain_model.specs.Examples.{Example, texts}
+use Rattle.worked_examples.specs.Examples.{Example, texts}
 
 -- the latter of pairs, the first of elements, and three strategies
 abbrev pub frozen : Example

@@ -1,0 +1,16 @@
+use Rattle.worked_examples.proofs.ExamplesHold.{lists_hold, sets_hold, maps_hold, builders_hold, frozen_hold, walks_hold, limits_hold}
+use Rattle.worked_examples.proofs.LawfulExamples.{lawful_hold, reports_hold}
+use Rattle.worked_examples.proofs.examples_hold.Goals as goal
+
+pub returns : goal.returns
+returns c = record {
+  lists = lists_hold;
+  sets = sets_hold;
+  maps = maps_hold;
+  builders = builders_hold;
+  frozen = frozen_hold;
+  walks = walks_hold;
+  reports = reports_hold;
+  lawful = lawful_hold;
+  limits = limits_hold;
+}

@@ -1,0 +1,10 @@
+pub mod Examples
+pub mod ListExamples
+pub mod SetExamples
+pub mod MapExamples
+pub mod BuilderExamples
+pub mod FrozenExamples
+pub mod WalkExamples
+pub mod ReportExamples
+pub mod LawfulExamples
+pub mod LimitExamples
