@@ -2,7 +2,7 @@
 use Rattle.std.proofs.Common.{◌≡◌, ℕ, ◌-◌, ◌<◌, List, [], ◌∷◌, ◌++◌, length, take, drop, suc, zero, arith, ap, ◌∙◌, refl}
 use Rattle.std.specs.List.{insert, remove}
 use Rattle.std.specs.Prelude.{slice_set}
-use Rattle.std.proofs.lemmas.List.{set-append_left, set-append_right, take-append-le, drop-append-le}
+use Rattle.std.proofs.lemmas.List.{set-append_left, set-append_right, take-append-le, drop-append-le, take_all}
 use Rattle.std.proofs.lemmas.List.Edits.{insert-append_right, remove-append_right}
 
 module _ {X : Type 0} where
@@ -48,6 +48,9 @@ module _ {X : Type 0} where
   drop_right (y ∷ l) x r (suc i) p =
       drop_right l x r i (omega arith) ∙ ap (λ k. drop k r) (let e : i - length l - 1 ≡ suc i - suc (length l) - 1 = omega arith in e)
 
+  pub drop_none : (l : List X) (i : ℕ) → i ≡ zero → drop i l ≡ l
+  drop_none l i e = ap (λ k. drop k l) e
+
 pub ruleset edits = (insert_right, remove_middle, remove_right, set_left, set_middle, set_right)
 
-pub ruleset cuts = (take_right, drop_right, take-append-le, drop-append-le)
+pub ruleset cuts = (take_all, drop_none, take_right, drop_right, take-append-le, drop-append-le)

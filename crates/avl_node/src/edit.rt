@@ -4,7 +4,7 @@ ghost use Rattle.std.specs.Prelude.{◌≡◌, ◌+◌, ◌<◌, ◌≤◌, ◌�
 ghost use Rattle.avl_node.specs.Shape.{DifferByAtMost, Fits};
 
 use crate::balance::balance;
-use crate::tree::{Root, Tree};
+use crate::tree::{Node, Root, Tree};
 use imm_base::{Item, Memory};
 use std::alloc::Global;
 
@@ -20,15 +20,15 @@ impl<T: Item> Tree<T> {
     {
         match &self.root {
             Root::Empty => Tree::fork(alloc, Tree::new(), value, Tree::new()),
-            Root::Fork(node) => {
+            Root::Fork(shared) => {
+                let node: &Node<T> = shared;
                 let before = node.before;
-                let copy = node.value.dup(alloc)?;
                 if index <= before {
                     let left = node.left.inserted(alloc, index, value)?;
-                    balance(alloc, left, copy, node.right.share()?)
+                    balance(alloc, left, node.value.dup(alloc)?, node.right.share()?)
                 } else {
                     let right = node.right.inserted(alloc, index - before - 1, value)?;
-                    balance(alloc, node.left.share()?, copy, right)
+                    balance(alloc, node.left.share()?, node.value.dup(alloc)?, right)
                 }
             }
         }
