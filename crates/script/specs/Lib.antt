@@ -7,5 +7,6 @@ pub mod Drafts
 pub mod Reading
 pub mod Printing
 pub mod Runnable
+pub mod Ready
 pub mod FirstForm
 pub mod Grammar
