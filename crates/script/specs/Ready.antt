@@ -10,6 +10,7 @@ use Rattle.plain_model.specs.declared.commands.Command.TheVariants as commands
 use Rattle.plain_model.specs.declared.report.CellDecl.{CellDecl}
 use Rattle.plain_model.specs.declared.report.Script.{Script}
 use Rattle.plain_model.specs.Plain.{made}
+use Rattle.plain_model.specs.Sources.{is_within, are_within, op_values, query_values}
 use Rattle.script.specs.declared.lookup.LocalName.{LocalName}
 use Rattle.script.specs.Drafts.{cell_kind, local_kind, with_name, rebinds_ok}
 
@@ -42,12 +43,12 @@ binds cells names _ = None
 
 -- the names of a command are declared and bound, as it needs them
 abbrev pub is_ready : List CellDecl → List LocalName → Command → Bool
-is_ready cells names (commands.Update cell op) = is_declared cells cell
+is_ready cells names (commands.Update cell op) = is_declared cells cell && are_within (op_values op)
 is_ready cells names (commands.Read cell x) = is_declared cells cell
 is_ready cells names (commands.Publish cell x) = is_declared cells cell && is_bound names x
-is_ready cells names (commands.New x kind src from) = is_built kind && is_source names from
-is_ready cells names (commands.Let y x op from) = is_bound names x && is_source names from
-is_ready cells names (commands.Ask x query from) = is_bound names x && is_source names from
+is_ready cells names (commands.New x kind src from) = is_built kind && is_source names from && is_within src
+is_ready cells names (commands.Let y x op from) = is_bound names x && is_source names from && are_within (op_values op)
+is_ready cells names (commands.Ask x query from) = is_bound names x && is_source names from && are_within (query_values query)
 is_ready cells names (commands.Show x) = is_bound names x
 is_ready cells names _ = false
 
@@ -67,6 +68,7 @@ AreDistinct (cell ∷ cells) = (cell_kind cells cell.name ≡ None) × AreDistin
 -- a cell of a kind that is built, whose first contents fit
 pub record HasFirst (cell : CellDecl) : Type 0 where
   pub built : is_built cell.kind ≡ true
+  pub within : is_within cell.values ≡ true
   pub made : is_ok (made cell.kind cell.values) ≡ true
 
 -- ---- scripts
