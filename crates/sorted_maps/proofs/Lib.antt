@@ -1,0 +1,4 @@
+pub mod Ordinal
+pub mod Places
+pub mod Ranges
+pub mod Trees

@@ -1,0 +1,164 @@
+// Changes of many pairs, one after another.
+ghost use Rattle.std.specs.Prelude.{◌≡◌, IfOk, fold, true};
+ghost use Rattle.std.specs.List.{list_all, list_any};
+ghost use Rattle.std.specs.Ordering.{eq_by_cmp};
+ghost use Rattle.imm_base.specs.Maps.{add_all, add_over, has_key, has_pair, map_add_all, map_remove_all, map_set_all, set_all, set_pair, value_of, without_key};
+ghost use Rattle.sorted_maps.specs.Answers.{Answers, AnswersAdded};
+
+use crate::map::SortedMap;
+use imm_base::{Edit, Key, LIMIT, MapFault, Memory, Order};
+use std::alloc::Global;
+
+impl<K: Key, V: Key, O: Order<K>> SortedMap<K, V, O> {
+    /// The map with the pairs added in order. A key that is present with another value refuses them
+    /// all, also one that an earlier of these pairs brought.
+    pub fn add_range(
+        &self,
+        alloc: Global,
+        pairs: &[(K, V)],
+    ) -> Result<Edit<SortedMap<K, V, O>>, MapFault<V>>
+        ensures { Answers self.now.order result (map_add_all K.eq (O.order self.now.order) (eq_by_cmp (O.order self.now.order)) V.eq pairs.now self.now.pairs) }
+    {
+        let count = self.count();
+        let map = self.with_added(alloc, pairs)?;
+        if map.count() > LIMIT {
+            Err(MapFault::TooLarge { count })
+        } else if map.count() == count {
+            Ok(Edit::Same)
+        } else {
+            Ok(Edit::New(map))
+        }
+    }
+
+    /// The map with the pairs set in order. It stays as it is exactly where each pair is present.
+    pub fn set_items(
+        &self,
+        alloc: Global,
+        pairs: &[(K, V)],
+    ) -> Result<Edit<SortedMap<K, V, O>>, MapFault<V>>
+        ensures { Answers self.now.order result (map_set_all (O.order self.now.order) (eq_by_cmp (O.order self.now.order)) V.eq pairs.now self.now.pairs) }
+    {
+        let map = self.with_set(alloc, pairs)?;
+        if map.count() > LIMIT {
+            Err(MapFault::TooLarge {
+                count: self.count(),
+            })
+        } else if self.has_all(pairs) {
+            Ok(Edit::Same)
+        } else {
+            Ok(Edit::New(map))
+        }
+    }
+
+    /// The map without the pairs of the keys.
+    pub fn remove_range(
+        &self,
+        alloc: Global,
+        keys: &[K],
+    ) -> Result<Edit<SortedMap<K, V, O>>, MapFault<V>>
+        ensures { Answers self.now.order result (map_remove_all (eq_by_cmp (O.order self.now.order)) keys.now self.now.pairs) }
+    {
+        if self.has_any(keys) {
+            Ok(Edit::New(self.without_all(alloc, keys)?))
+        } else {
+            Ok(Edit::Same)
+        }
+    }
+
+    // The map with the pairs added in order, however many there are.
+    pub(crate) fn with_added(
+        &self,
+        alloc: Global,
+        pairs: &[(K, V)],
+    ) -> Result<SortedMap<K, V, O>, MapFault<V>>
+        ensures { AnswersAdded self.now.order result (add_all (O.order self.now.order) (eq_by_cmp (O.order self.now.order)) V.eq pairs.now self.now.pairs) }
+    {
+        let mut map = self.share()?;
+        for pair in pairs {
+            map = map.added(alloc, &pair.0, &pair.1)?;
+        }
+        Ok(map)
+    }
+
+    // The map with one pair added.
+    fn added(&self, alloc: Global, key: &K, value: &V) -> Result<SortedMap<K, V, O>, MapFault<V>>
+        ensures { AnswersAdded self.now.order result (add_over (O.order self.now.order) (eq_by_cmp (O.order self.now.order)) V.eq key.now value.now self.now.pairs (value_of (eq_by_cmp (O.order self.now.order)) key.now self.now.pairs)) }
+    {
+        match self.get(key) {
+            Some(old) if *old == *value => Ok(self.share()?),
+            Some(old) => Err(MapFault::KeyExists {
+                old: old.dup(alloc)?,
+            }),
+            None => {
+                let key = key.dup(alloc)?;
+                let value = value.dup(alloc)?;
+                Ok(self.with(alloc, key, value)?)
+            }
+        }
+    }
+
+    // The map with the pairs set in order, however many there are.
+    pub(crate) fn with_set(
+        &self,
+        alloc: Global,
+        pairs: &[(K, V)],
+    ) -> Result<SortedMap<K, V, O>, Memory>
+        ensures pairs { IfOk result (λ m. m.pairs ≡ set_all (O.order self.now.order) (eq_by_cmp (O.order self.now.order)) V.eq pairs.now self.now.pairs) }
+        ensures order { IfOk result (λ m. m.order ≡ self.now.order) }
+    {
+        let mut map = self.share()?;
+        for pair in pairs {
+            map = map.set(alloc, &pair.0, &pair.1)?;
+        }
+        Ok(map)
+    }
+
+    // The map with one pair set.
+    fn set(&self, alloc: Global, key: &K, value: &V) -> Result<SortedMap<K, V, O>, Memory>
+        ensures pairs { IfOk result (λ m. m.pairs ≡ set_pair (O.order self.now.order) (eq_by_cmp (O.order self.now.order)) V.eq key.now value.now self.now.pairs) }
+        ensures order { IfOk result (λ m. m.order ≡ self.now.order) }
+    {
+        if self.has_pair(key, value) {
+            return self.share();
+        }
+        let key = key.dup(alloc)?;
+        let value = value.dup(alloc)?;
+        self.with(alloc, key, value)
+    }
+
+    // The map without the pairs of the keys.
+    fn without_all(&self, alloc: Global, keys: &[K]) -> Result<SortedMap<K, V, O>, Memory>
+        ensures pairs { IfOk result (λ m. m.pairs ≡ fold (λ n k. without_key (eq_by_cmp (O.order self.now.order)) k n) self.now.pairs keys.now) }
+        ensures order { IfOk result (λ m. m.order ≡ self.now.order) }
+    {
+        let mut map = self.share()?;
+        for key in keys {
+            map = map.without(alloc, key)?;
+        }
+        Ok(map)
+    }
+
+    // Whether each pair is present.
+    fn has_all(&self, pairs: &[(K, V)]) -> bool
+        ensures { result ≡ list_all (λ p. has_pair (eq_by_cmp (O.order self.now.order)) V.eq p.0 p.1 self.now.pairs) pairs.now }
+    {
+        for pair in pairs {
+            if !self.has_pair(&pair.0, &pair.1) {
+                return false;
+            }
+        }
+        true
+    }
+
+    // Whether one of the keys is present.
+    fn has_any(&self, keys: &[K]) -> bool
+        ensures { result ≡ list_any (λ k. has_key (eq_by_cmp (O.order self.now.order)) k self.now.pairs) keys.now }
+    {
+        for key in keys {
+            if self.has_key(key) {
+                return true;
+            }
+        }
+        false
+    }
+}
