@@ -2,7 +2,7 @@
 use Rattle.std.proofs.Common.{◌≡◌, ℕ, suc, zero, ◌<◌, ◌≤◌, pos, negsuc, Bool, true, false, not, cond, ◌||◌, ltb, List, [], ◌∷◌, length, arith, ap, sym, ◌∙◌, refl, subst, Some, None, slice_get}
 use Rattle.std.specs.List.{insert, remove, prefix_len}
 use Rattle.std.specs.Option.{option_map_or}
-use Rattle.std.specs.Cmp.{IsTotalOrder}
+use Rattle.std.specs.Cmp.{IsTotalOrder, eq_by_cmp_equiv}
 use Rattle.std.specs.Ordering.{is_lt, is_eq, eq_by_cmp, ordering_reverse}
 use Rattle.std.specs.declared.cmp.Ordering.{Ordering}
 use Rattle.std.specs.declared.cmp.Ordering.TheVariants.{Less, Equal, Greater}
@@ -11,7 +11,7 @@ use Rattle.imm_base.specs.Lists.{is_unsorted, insert_sorted, less_count, search_
 use Rattle.imm_base.specs.Sets.{has, same_in, difference}
 use Rattle.imm_base.specs.Kept.{IsBelowAll, Rises, IsSet, CanKeep}
 use Rattle.imm_base.proofs.Inserted.{put, insert_sorted_is_put}
-use Rattle.imm_base.proofs.KeptSets.{set_filter, set_insert, keep_by_order}
+use Rattle.imm_base.proofs.KeptSets.{or_no, set_filter, set_insert, keep_by_order}
 use Rattle.avl_node.specs.Sides.{place_at, is_equal_at}
 use Rattle.sorted_sets.specs.Placed.{IsAt, IsMissingAt}
 
@@ -20,7 +20,7 @@ module _ {T : Type 0} (cmp : T → T → Ordering) (total : IsTotalOrder cmp) wh
   back a b r is = total.antisymm b a ∙ ap ordering_reverse is
 
   -- nothing that x is less than is same to it
-  none_below : (x : T) (xs : List T) → IsBelowAll cmp x xs → has (eq_by_cmp cmp) x xs ≡ false
+  pub none_below : (x : T) (xs : List T) → IsBelowAll cmp x xs → has (eq_by_cmp cmp) x xs ≡ false
   none_below x [] up = refl
   none_below x (y ∷ ys) up = rw up.0 (none_below x ys up.1)
 
@@ -29,9 +29,6 @@ module _ {T : Type 0} (cmp : T → T → Ordering) (total : IsTotalOrder cmp) wh
   set_from_rises [] up = record { rises = tt; distinct = tt }
   set_from_rises (x ∷ xs) up =
       record { rises = up; distinct = (none_below x xs up.0, (set_from_rises xs up.1).distinct) }
-
-  sorted_step : (r : Ordering) (x y : T) (ys : List T) → cmp x y ≡ r → r ≡ Less → is_unsorted cmp (y ∷ ys) ≡ false → is_unsorted cmp (x ∷ y ∷ ys) ≡ false
-  sorted_step r x y ys is less rest = rw (is, less) rest
 
   pub sorted_from_rises : (xs : List T) → Rises cmp xs → is_unsorted cmp xs ≡ false
   sorted_from_rises [] up = refl
@@ -62,7 +59,7 @@ module _ {T : Type 0} (cmp : T → T → Ordering) (total : IsTotalOrder cmp) wh
     all_others [] up = refl
     all_others (y ∷ ys) up = rw (back v y Less up.0) (ap (λ t. y ∷ t) (all_others ys up.1))
 
-    put_front : (xs : List T) → IsBelowAll cmp v xs → put cmp v xs ≡ v ∷ xs
+    pub put_front : (xs : List T) → IsBelowAll cmp v xs → put cmp v xs ≡ v ∷ xs
     put_front [] up = refl
     put_front (y ∷ ys) up = rw up.0 refl
 
@@ -73,6 +70,14 @@ module _ {T : Type 0} (cmp : T → T → Ordering) (total : IsTotalOrder cmp) wh
           | true ↦ λ h. cc
           | false ↦ λ h. none_in ys h
         ] none
+
+    -- what is missing can be left out
+    all_kept : (xs : List T) → has (eq_by_cmp cmp) v xs ≡ false → difference (eq_by_cmp cmp) xs (v ∷ []) ≡ xs
+    all_kept [] none = refl
+    all_kept (y ∷ ys) none =
+        let parts = or_no (is_eq (cmp v y)) (has (eq_by_cmp cmp) v ys) none in
+        let turned : is_eq (cmp y v) ≡ false = (eq_by_cmp_equiv total).symm y v ∙ parts.0 in
+        rw turned (ap (λ t. y ∷ t) (all_kept ys parts.1))
 
     -- how the place i stands to the list
     record Found (xs : List T) (i : ℕ) : Type 0 where
@@ -204,6 +209,7 @@ module _ {T : Type 0} (cmp : T → T → Ordering) (total : IsTotalOrder cmp) wh
           missing = m.missing;
           inside = m.inside;
           none = none_in xs m.missing;
+          whole = all_kept xs m.missing;
           search = search_missing xs i m;
           inserted = inserted;
           set = subst (λ (ys : List T). IsSet cmp (eq_by_cmp cmp) ys) (sym inserted) (set_insert cmp (eq_by_cmp cmp) keep.total keep.equal keep.ties v xs m.missing is);

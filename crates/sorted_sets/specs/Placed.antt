@@ -21,6 +21,7 @@ module _ {T : Type 0} (cmp : T → T → Ordering) where
     pub missing : has (eq_by_cmp cmp) x xs ≡ false
     pub inside : i ≤ length xs
     pub none : same_in (eq_by_cmp cmp) x xs ≡ None
+    pub whole : difference (eq_by_cmp cmp) xs (x ∷ []) ≡ xs
     pub search : search_place cmp x xs ≡ negsuc i
     pub inserted : insert xs i x ≡ insert_sorted cmp x xs
     pub set : IsSet cmp (eq_by_cmp cmp) (insert xs i x)
