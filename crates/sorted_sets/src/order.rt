@@ -5,7 +5,7 @@ ghost use Rattle.imm_base.specs.Lists.{sorted};
 ghost use Rattle.imm_base.specs.Sets.{union};
 ghost use Rattle.sorted_sets.specs.Answers.{Answers};
 ghost use Rattle.sorted_sets.specs.Ordered.{kept};
-ghost use Rattle.sorted_sets.specs.Reordered.{set_reorder};
+ghost use Rattle.sorted_sets.specs.Rekeyed.{set_rekey};
 
 use crate::set::SortedSet;
 use imm_base::{Edit, Key, Memory, Order, SetFault};
@@ -30,7 +30,7 @@ impl<T: Key, O: Order<T>> SortedSet<T, O> {
     /// The set kept in this order. Of elements that are the same then it takes the first in their own
     /// order.
     pub fn with_order(&self, alloc: Global, order: O) -> Result<Edit<SortedSet<T, O>>, SetFault>
-        ensures { Answers order result (set_reorder T.cmp (O.order order) (O.eq order self.now.order) self.now.items) }
+        ensures { Answers order result (set_rekey (O.eq order self.now.order) T.cmp (O.order order) self.now.items) }
     {
         if order == self.order() {
             return Ok(Edit::Same);
