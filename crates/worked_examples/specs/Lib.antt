@@ -8,3 +8,4 @@ pub mod WalkExamples
 pub mod ReportExamples
 pub mod LawfulExamples
 pub mod LimitExamples
+pub mod GeneratorExamples

@@ -12,6 +12,7 @@ ghost use Rattle.worked_examples.specs.WalkExamples.{walk_examples};
 ghost use Rattle.worked_examples.specs.LimitExamples.{LimitExamples};
 ghost use Rattle.worked_examples.specs.ReportExamples.{IsTold, report_examples};
 ghost use Rattle.worked_examples.specs.LawfulExamples.{LawfulExamples};
+ghost use Rattle.worked_examples.specs.GeneratorExamples.{GeneratorExamples};
 
 #[cfg(test)]
 mod tests;
@@ -27,4 +28,5 @@ pub fn examples_hold()
     ensures reports { AllByRecursion IsTold report_examples }
     ensures lawful { LawfulExamples }
     ensures limits { LimitExamples }
+    ensures generated { GeneratorExamples }
 {}
