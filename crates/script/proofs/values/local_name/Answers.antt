@@ -1,7 +1,7 @@
 use Rattle.std.proofs.Common.{◌≡◌, true, refl, sym, ◌∙◌}
-use Rattle.script.specs.Arguments.{is_small, is_name}
+use Rattle.script.specs.Values.{is_small, is_name}
 use Rattle.script.proofs.Names.{is_text-local_name}
-use Rattle.script.proofs.arguments.local_name.Goals as goal
+use Rattle.script.proofs.values.local_name.Goals as goal
 
 pub returns : goal.returns
 returns c =

@@ -1,7 +1,7 @@
 use Rattle.std.proofs.Common.{◌≡◌, true, refl, sym, ◌∙◌}
-use Rattle.script.specs.Arguments.{is_capital, is_name}
+use Rattle.script.specs.Values.{is_capital, is_name}
 use Rattle.script.proofs.Names.{is_text-cell_name}
-use Rattle.script.proofs.arguments.cell_name.Goals as goal
+use Rattle.script.proofs.values.cell_name.Goals as goal
 
 pub returns : goal.returns
 returns c =
