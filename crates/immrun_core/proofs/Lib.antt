@@ -1,5 +1,11 @@
 pub mod Buffer
 pub mod Complete
 pub mod Known
-pub mod OneRun
 pub mod Told
+pub mod Histories
+pub mod Stands
+pub mod Bindings
+pub mod Deeds
+pub mod Readiness
+pub mod Works
+pub mod OneRun

@@ -1,5 +1,8 @@
 pub mod Outside
-pub mod Run
 pub mod Status
 pub mod Top
 pub mod WordBuffer
+pub mod Cells
+pub mod Names
+pub mod Effects
+pub mod Works

@@ -1,16 +1,21 @@
 //! Runs scripts: from the bytes read to the bytes written.
 #![tactic(auto)]
 
+mod cells;
 mod complaint;
 mod digits;
+mod local;
+mod names;
 mod program;
 mod run;
-mod running;
+#[cfg(test)]
+mod script_tests;
 mod status;
 mod streams;
 #[cfg(test)]
 mod tests;
 mod word;
+mod work;
 
 pub use plain_model::report_text;
 pub use program::top;

@@ -38,7 +38,7 @@ const RUN: Call = Call {
     fault_room: 1000,
 };
 
-fn words_of(alloc: Global, texts: &[&str]) -> Result<Vec<Word>, Fail> {
+pub(crate) fn words_of(alloc: Global, texts: &[&str]) -> Result<Vec<Word>, Fail> {
     let mut words = Vec::new(alloc);
     for text in texts {
         words.push(match Text64::from_text(text) {
@@ -93,9 +93,14 @@ fn each_end_has_its_bytes(rt: HostRuntime) -> Result<(), Fail> {
         told: b"",
     };
     let refused = End {
-        status: Status::Refused { line: 0, code: 0 },
+        status: Status::Refused { line: 4, code: 3 },
         wrote: b"",
-        told: b"refused line 0: 0 form\n",
+        told: b"refused line 4: 3 value\n",
+    };
+    let empty = End {
+        status: Status::Refused { line: 1, code: 1 },
+        wrote: b"",
+        told: b"refused line 1: 1 header\n",
     };
     let read_fault = End {
         status: Status::ReadFault,
@@ -120,7 +125,7 @@ fn each_end_has_its_bytes(rt: HostRuntime) -> Result<(), Fail> {
             },
             refused,
         ),
-        (Call { input: b"", ..RUN }, refused),
+        (Call { input: b"", ..RUN }, empty),
         (Call { fails: true, ..RUN }, read_fault),
         (Call { room: 10, ..RUN }, write_fault),
         (
@@ -218,7 +223,13 @@ fn a_script_has_at_most_a_mebibyte(rt: HostRuntime) -> Result<(), Fail> {
         b"input longer than 1048576 bytes\n".as_slice()
     );
     let (status, _) = status_of_line_feeds(&rt, rt.alloc(), 1_048_576)?;
-    assert_eq!(rt; status, Status::Refused { line: 0, code: 0 });
+    assert_eq!(rt;
+        status,
+        Status::Refused {
+            line: 1_048_576,
+            code: 1
+        }
+    );
     Ok(())
 }
 

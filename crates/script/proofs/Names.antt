@@ -7,7 +7,7 @@ use Rattle.std.proofs.lemmas.List.Sums.{AllPass-from_list_all, list_all-from_All
 use Rattle.std.proofs.lemmas.Bool.{false≢true, false_from_ne_true, and_parts, and_from, or_left, leb-true, le-leb}
 use Rattle.std.proofs.lemmas.Bool.Decides.{nat_tests}
 use Rattle.imm_base.specs.Text.{is_plain_byte, IsText24}
-use Rattle.script.specs.Arguments.{is_text, text_of, is_capital, is_small, is_name}
+use Rattle.script.specs.Values.{is_text, text_of, is_capital, is_small, is_name}
 
 IsText24-from_test : (text : List ℕ) → is_text text ≡ true → IsText24 text
 IsText24-from_test text e =

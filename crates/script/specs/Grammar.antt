@@ -4,12 +4,12 @@ use Rattle.plain_model.specs.declared.report.Script.{Script}
 use Rattle.script.specs.declared.fault.ParseFault.{ParseFault}
 use Rattle.script.specs.declared.fault.ParseError.{ParseError}
 use Rattle.script.specs.declared.fault.ParseError.TheVariants.{Fault, Memory}
-use Rattle.script.specs.Reading.{read_text}
-use Rattle.script.specs.FirstForm.{first_form}
+use Rattle.script.specs.Lines.{script_lines}
+use Rattle.script.specs.Reading.{start, read_lines}
 
--- The script that the bytes are, or why they are none.
+-- The script that the bytes are, or the least refused line with the least code on it.
 abbrev pub read_script : List ℕ → Result Script ParseFault
-read_script bytes = first_form bytes (read_text bytes)
+read_script bytes = read_lines start 1 (script_lines bytes)
 
 -- The answer is this reading, unless memory ran out.
 abbrev pub Answers : Result Script ParseError → Result Script ParseFault → Type 0

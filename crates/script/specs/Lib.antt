@@ -2,11 +2,13 @@ pub mod Judging
 pub mod Lines
 pub mod Words
 pub mod Numerals
+pub mod Values
+pub mod Operations
+pub mod Queries
 pub mod Arguments
 pub mod Drafts
+pub mod Ready
+pub mod Placing
 pub mod Reading
 pub mod Printing
-pub mod Runnable
-pub mod Ready
-pub mod FirstForm
 pub mod Grammar

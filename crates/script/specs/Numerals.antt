@@ -26,3 +26,11 @@ negative_from (Some n) = if nat_lt 0 n && nat_le n (2 ^ 63) then Some (neg_ℤ (
 abbrev pub integer_of : List ℕ → Option ℤ
 integer_of [] = None
 integer_of (b ∷ bs) = if b == 45 then negative_from (magnitude_of bs) else positive_from (magnitude_of (b ∷ bs))
+
+abbrev pub number_from : Option ℕ → Option ℕ
+number_from None = None
+number_from (Some n) = if nat_lt n (2 ^ 32) then Some n else None
+
+-- A number of 32 bits.
+abbrev pub number_of : List ℕ → Option ℕ
+number_of word = number_from (magnitude_of word)

@@ -9,10 +9,9 @@ use Rattle.script.specs.declared.fault.Code.TheVariants.{Header, Word, Structure
 use Rattle.script.specs.declared.fault.ParseFault.{ParseFault}
 use Rattle.script.specs.declared.draft.Draft.{Draft}
 use Rattle.script.specs.Judging.{◌>>=◌, rank}
-use Rattle.script.specs.Lines.{script_lines}
 use Rattle.script.specs.Words.{words}
 use Rattle.script.specs.Arguments.{line_of}
-use Rattle.script.specs.Drafts.{placed}
+use Rattle.script.specs.Placing.{placed}
 
 -- a byte that may stand in a significant line: a tab, or from the space to the tilde
 abbrev pub is_allowed : ℕ → Bool
@@ -59,7 +58,7 @@ IsStep new (Ok a) step = step ≡ Ok new
 IsStep new (Err c) step = step ≡ Err c
 
 abbrev pub start : Draft
-start = record { begun = false; cells = []; parts = []; commands = None; names = [] }
+start = record { begun = false; cells = []; parts = []; commands = None; names = []; published = 0 }
 
 abbrev pub script_of : Draft → Script
 script_of draft = record { version = 1; cells = draft.cells; parts = draft.parts }
@@ -73,7 +72,3 @@ at_line n (Err c) = Err (record { line = n; code = rank c })
 unfoldable pub read_lines : Draft → ℕ → List (List ℕ) → Result Script ParseFault
 read_lines draft n [] = Ok (script_of draft)
 read_lines draft n (line ∷ lines) = at_line n (judged draft (length lines == 0) line) >>= λ next. read_lines next (n + 1) lines
-
--- The script that the bytes are, or the least refused line with the least code on it.
-abbrev pub read_text : List ℕ → Result Script ParseFault
-read_text bytes = read_lines start 1 (script_lines bytes)

@@ -1,15 +1,21 @@
 //! What the lines so far have made.
 
-ghost use Rattle.std.specs.Prelude.{◌≡◌, None, length, OnOk, IfOk};
+ghost use Rattle.std.specs.Prelude.{◌≡◌, true, [], None, length, OnOk, IfOk};
 ghost use Rattle.std.specs.List.{list_all};
 ghost use Rattle.script.specs.Words.{seen};
-ghost use Rattle.script.specs.Drafts.{names_ok, kinds_ok, structure_ok, commands_so_far, limits_ok, after, placed};
+ghost use Rattle.script.specs.declared.line.Line.TheVariants as lines;
+ghost use Rattle.script.specs.Drafts.{with_name};
+ghost use Rattle.script.specs.Ready.{binds};
+ghost use Rattle.script.specs.Placing.{names_ok, kinds_ok, structure_ok, may_publish, commands_so_far, limits_ok, after, placed};
 ghost use Rattle.script.specs.Reading.{is_allowed, is_comment, is_passed_over, is_header, passed, first_judged, significant, judged, start, script_of, IsStep};
 
 use crate::arguments::line_of;
 use crate::fault::Code;
+use crate::fitting::fits;
+use crate::limits::{command_is_short, first_fits, is_short, may_publish, published_with};
 use crate::line::Line;
-use crate::lookup::{LocalName, bind, binds, cell_kind, cell_of, count_with, op_fits, rebinds_ok};
+use crate::lookup::{LocalName, bind, cell_kind, count_with, rebinds_ok};
+use crate::needs::{binds, has_names, is_built};
 use crate::words::split_words;
 use imm_base::Memory;
 use plain_model::{CellDecl, Command, Listed, Part, Script};
@@ -26,6 +32,8 @@ pub(crate) struct Draft {
     pub commands: Option<Listed<Command>>,
     /// The local names of the part that is open, each once.
     pub names: Listed<LocalName>,
+    /// How often the part that is open has published.
+    pub published: u32,
 }
 
 fn is_allowed(byte: u8) -> bool
@@ -78,6 +86,7 @@ impl Draft {
             parts: Listed::new(alloc),
             commands: None,
             names: Listed::new(alloc),
+            published: 0,
         }
     }
 
@@ -97,24 +106,29 @@ impl Draft {
     {
         match line {
             Line::Cell(cell) => cell_kind(self.cells.as_slice(), &cell.name).is_none(),
-            Line::Command(command) => match cell_of(command) {
-                Some(cell) => cell_kind(self.cells.as_slice(), cell).is_some(),
-                None => true,
-            },
+            Line::Command(command) => {
+                has_names(self.cells.as_slice(), self.names.as_slice(), command)
+            }
             Line::Worker => true,
             Line::End => true,
         }
+    }
+
+    /// Whether what a command does goes with the kinds of its names, the one that it binds included.
+    fn command_fits(&self, command: &Command) -> bool
+        ensures { result ≡ kinds_ok self.now (lines.Command command.now) }
+    {
+        let cells = self.cells.as_slice();
+        let names = self.names.as_slice();
+        fits(cells, names, command) && rebinds_ok(names, &binds(cells, names, command))
     }
 
     fn kinds_ok(&self, line: &Line) -> bool
         ensures { result ≡ kinds_ok self.now line.now }
     {
         match line {
-            Line::Command(command) => {
-                let cells = self.cells.as_slice();
-                op_fits(cells, command) && rebinds_ok(self.names.as_slice(), &binds(cells, command))
-            }
-            Line::Cell(_) => true,
+            Line::Cell(cell) => is_built(cell.kind),
+            Line::Command(command) => self.command_fits(command),
             Line::Worker => true,
             Line::End => true,
         }
@@ -140,16 +154,35 @@ impl Draft {
         }
     }
 
+    /// How many names are bound after this command.
+    fn name_count(&self, command: &Command) -> usize
+        ensures { result ≡ length (with_name self.now.names (binds self.now.cells self.now.names command.now)) }
+    {
+        let cells = self.cells.as_slice();
+        let names = self.names.as_slice();
+        count_with(names, &binds(cells, names, command))
+    }
+
+    /// Whether there is room for a command, and it says no more than it may.
+    fn has_room(&self, command: &Command) -> bool
+        ensures { result ≡ limits_ok self.now (lines.Command command.now) }
+    {
+        self.command_count() < 4_096
+            && may_publish(self.published, command)
+            && self.name_count(command) <= 32
+            && command_is_short(command)
+    }
+
     fn limits_ok(&self, line: &Line) -> bool
+        requires { kinds_ok self.now line.now ≡ true }
         ensures { result ≡ limits_ok self.now line.now }
     {
         match line {
-            Line::Cell(_) => self.cells.as_slice().len() < 16,
-            Line::Worker => self.parts.as_slice().len() < 8,
-            Line::Command(command) => {
-                let bound = binds(self.cells.as_slice(), command);
-                self.command_count() < 4_096 && count_with(self.names.as_slice(), &bound) <= 32
+            Line::Cell(cell) => {
+                self.cells.as_slice().len() < 16 && is_short(&cell.values) && first_fits(cell)
             }
+            Line::Worker => self.parts.as_slice().len() < 8,
+            Line::Command(command) => self.has_room(command),
             Line::End => true,
         }
     }
@@ -165,8 +198,31 @@ impl Draft {
         }
     }
 
+    /// Gives up the names of a part.
+    fn forget_names(&mut self, alloc: Global)
+        ensures { self.new ≡ record self.old { names = []; published = 0 } }
+    {
+        self.names = Listed::new(alloc);
+        self.published = 0;
+    }
+
+    /// Adds a command to the part that is open.
+    fn add_command(&mut self, alloc: Global, command: Command) -> Result<(), Memory>
+        requires { may_publish self.old.published command ≡ true }
+        ensures { OnOk result (self.new ≡ after self.old (lines.Command command)) }
+    {
+        let bound = binds(self.cells.as_slice(), self.names.as_slice(), &command);
+        bind(&mut self.names, bound)?;
+        self.published = published_with(self.published, &command);
+        let mut commands = self.take_commands(alloc);
+        commands.push(command)?;
+        self.commands = Some(commands);
+        Ok(())
+    }
+
     /// Adds what the line says.
     fn add(&mut self, alloc: Global, line: Line) -> Result<(), Memory>
+        requires { limits_ok self.old line ≡ true }
         ensures { OnOk result (self.new ≡ after self.old line) }
     {
         match line {
@@ -176,28 +232,21 @@ impl Draft {
             }
             Line::Worker => {
                 self.commands = Some(Listed::new(alloc));
-                self.names = Listed::new(alloc);
+                self.forget_names(alloc);
                 Ok(())
             }
-            Line::Command(command) => {
-                let bound = binds(self.cells.as_slice(), &command);
-                bind(&mut self.names, bound)?;
-                let mut commands = self.take_commands(alloc);
-                commands.push(command)?;
-                self.commands = Some(commands);
-                Ok(())
-            }
+            Line::Command(command) => self.add_command(alloc, command),
             Line::End => {
                 let commands = self.take_commands(alloc);
                 self.parts.push(Part { commands })?;
-                self.names = Listed::new(alloc);
+                self.forget_names(alloc);
                 Ok(())
             }
         }
     }
 
     /// Takes what a line says, or answers the least code from the names on.
-    #[tactic(auto, unfolding(crate::specs::Drafts::placed))]
+    #[tactic(auto, unfolding(crate::specs::Placing::placed))]
     fn place(
         &mut self,
         alloc: Global,
@@ -261,7 +310,7 @@ impl Draft {
         if !is_clean(line) {
             return Ok(Err(Code::Word));
         }
-        match line_of(alloc, words) {
+        match line_of(alloc, words)? {
             Ok(line) => self.place(alloc, is_last, line),
             Err(code) => Ok(Err(code)),
         }

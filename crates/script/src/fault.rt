@@ -43,7 +43,6 @@ impl Code {
 }
 
 /// The line that is refused, counted from 1, and the code of what is wrong with it, from 1 to 7.
-/// Line 0 with code 0 refuses the text as a whole.
 #[derive(Clone, Copy, Debug, PartialEq, Eq)]
 pub struct ParseFault {
     pub line: u32,

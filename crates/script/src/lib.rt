@@ -4,16 +4,21 @@
 mod arguments;
 mod draft;
 mod fault;
-mod first_form;
+mod fitting;
 mod judging;
+mod limits;
 mod line;
 mod lines;
 mod lookup;
+mod needs;
 mod numerals;
+mod operations;
 mod parsing;
 mod printing;
+mod queries;
 mod reading;
 mod table;
+mod values;
 mod words;
 
 pub use fault::{ParseError, ParseFault};

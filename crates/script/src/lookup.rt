@@ -1,11 +1,10 @@
-//! What is declared and bound, and what a command speaks of.
+//! What is declared and bound.
 
 ghost use Rattle.std.specs.Prelude.{◌≡◌, length, OnOk};
-ghost use Rattle.std.specs.Option.{option_copied};
-ghost use Rattle.script.specs.Drafts.{cell_kind, local_kind, cell_of, binds, takes, same_kind, op_fits, rebinds_ok, with_name};
+ghost use Rattle.script.specs.Drafts.{cell_kind, local_kind, same_kind, rebinds_ok, with_name};
 
 use imm_base::{Memory, Text24};
-use plain_model::{CellDecl, Command, Kind, Listed, PlainOp};
+use plain_model::{CellDecl, Kind, Listed};
 
 /// A local name, and the kind of the collection that it is bound to.
 #[derive(Clone, Copy)]
@@ -27,7 +26,7 @@ pub(crate) fn cell_kind(cells: &[CellDecl], name: &Text24) -> Option<Kind>
 }
 
 /// The kind that the local name is bound to, if it is.
-fn local_kind(names: &[LocalName], name: &Text24) -> Option<Kind>
+pub(crate) fn local_kind(names: &[LocalName], name: &Text24) -> Option<Kind>
     ensures { result ≡ local_kind names.now name.now }
 {
     for local in names {
@@ -38,54 +37,11 @@ fn local_kind(names: &[LocalName], name: &Text24) -> Option<Kind>
     None
 }
 
-/// The cell that a command is on.
-pub(crate) fn cell_of(command: &Command) -> Option<&Text24>
-    ensures { option_copied result ≡ cell_of command.now }
-{
-    match command {
-        Command::Update(cell, _) => Some(cell),
-        Command::Read(cell, _) => Some(cell),
-        _ => None,
-    }
-}
-
-/// The local name that a command binds, with its kind.
-pub(crate) fn binds(cells: &[CellDecl], command: &Command) -> Option<LocalName>
-    ensures { result ≡ binds cells.now command.now }
-{
-    match command {
-        Command::Read(cell, name) => match cell_kind(cells, cell) {
-            Some(kind) => Some(LocalName { name: *name, kind }),
-            None => None,
-        },
-        _ => None,
-    }
-}
-
-/// Whether the operation is one of this kind's.
-fn takes(kind: Kind, op: &PlainOp) -> bool
-    ensures { result ≡ takes kind op.now }
-{
-    matches!((kind, op), (Kind::List, PlainOp::Add(_)))
-}
-
+/// Whether the kinds are the same, whatever their comparers.
 fn same_kind(a: Kind, b: Kind) -> bool
     ensures { result ≡ same_kind a b }
 {
     matches!((a, b), (Kind::List, Kind::List))
-}
-
-/// Whether the operation of an `update` goes with the cell's kind.
-pub(crate) fn op_fits(cells: &[CellDecl], command: &Command) -> bool
-    ensures { result ≡ op_fits cells.now command.now }
-{
-    match command {
-        Command::Update(cell, op) => match cell_kind(cells, cell) {
-            Some(kind) => takes(kind, op),
-            None => true,
-        },
-        _ => true,
-    }
 }
 
 /// Whether a name that is bound again keeps its kind.

@@ -3,7 +3,7 @@
 ghost use Rattle.std.specs.Prelude.{◌≡◌, Some};
 ghost use Rattle.std.specs.Char.{is_ascii_digit};
 ghost use Rattle.std.specs.List.{list_all};
-ghost use Rattle.script.specs.Numerals.{is_numeral, magnitude_of, positive_from, negative_from, integer_of};
+ghost use Rattle.script.specs.Numerals.{is_numeral, magnitude_of, positive_from, negative_from, integer_of, number_from, number_of};
 
 fn are_digits(bytes: &[u8]) -> bool
     ensures { result ≡ list_all is_ascii_digit bytes.now }
@@ -69,4 +69,20 @@ pub(crate) fn integer_of(word: &[u8]) -> Option<i64>
         [b'-', digits @ ..] => negative(magnitude_of(digits)),
         _ => positive(magnitude_of(word)),
     }
+}
+
+fn number_from(magnitude: Option<u64>) -> Option<u32>
+    ensures { result ≡ number_from magnitude }
+{
+    match magnitude {
+        Some(value) if value < 1 << 32 => Some(value as u32),
+        _ => None,
+    }
+}
+
+/// The number of 32 bits that a word writes.
+pub(crate) fn number_of(word: &[u8]) -> Option<u32>
+    ensures { result ≡ number_of word.now }
+{
+    number_from(magnitude_of(word))
 }

@@ -1,7 +1,7 @@
 //! A text as a script, line by line.
 
 ghost use Rattle.std.specs.Prelude.{◌≡◌, ◌≤◌, length, IfOk};
-ghost use Rattle.script.specs.Reading.{read_text};
+ghost use Rattle.script.specs.Grammar.{read_script};
 
 use crate::draft::Draft;
 use crate::fault::ParseFault;
@@ -13,7 +13,7 @@ use std::alloc::Global;
 /// The script that the bytes are, or the least refused line with the least code on it.
 pub(crate) fn read_text(alloc: Global, bytes: &[u8]) -> Result<Result<Script, ParseFault>, Memory>
     requires { length bytes.now ≤ 1048576 }
-    ensures { IfOk result (λ read. read ≡ read_text bytes.now) }
+    ensures { IfOk result (λ read. read ≡ read_script bytes.now) }
 {
     let mut draft = Draft::new(alloc);
     let mut rest = bytes;
