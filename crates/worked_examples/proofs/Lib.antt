@@ -5,3 +5,5 @@ pub mod Generated
 pub mod GeneratedCells
 pub mod GeneratorHolds
 pub mod Counted
+pub mod Built
+pub mod RegistryHolds
