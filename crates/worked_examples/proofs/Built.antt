@@ -1,5 +1,5 @@
 -- A history that is built call by call is legal.
-use Rattle.std.specs.Prelude.{◌≡◌, ℕ, ◌+◌, ◌≤◌, ◌<◌, List, [], ◌∷◌, Bool, true, false, ◌&&◌, nat_lt, is_some, if◌then◌else◌}
+use Rattle.std.specs.Prelude.{◌≡◌, ℕ, zero, suc, ◌+◌, ◌≤◌, ◌<◌, List, [], ◌∷◌, Bool, true, false, ◌&&◌, nat_lt, is_some, if◌then◌else◌}
 use Rattle.std.specs.List.{AllByRecursion}
 use Rattle.std.proofs.Common.{refl, sym, arith, inr, true≢false}
 use Rattle.std.proofs.lemmas.Bool.{ltb-true}
@@ -7,6 +7,11 @@ use Rattle.plain_model.specs.declared.plain.Plain.{Plain}
 use Rattle.plain_model.specs.declared.history.Line.{Line}
 use Rattle.plain_model.specs.Cell.{cell, after}
 use Rattle.plain_model.specs.History.{FitsFrom, InOrder, Legal, Numbered}
+
+-- the one number below 1
+pub only_zero : (P : ℕ → Type 0) → P 0 → (k : ℕ) → k < 1 → P k
+only_zero P p zero h = p
+only_zero P p (suc k) h = absurd (omega arith)
 
 -- the line of a call of the worker 1 at the value p, of the position k
 abbrev pub line_at : Plain → ℕ → Numbered → Line

@@ -7,3 +7,4 @@ pub mod GeneratorHolds
 pub mod Counted
 pub mod Built
 pub mod RegistryHolds
+pub mod GeneratedReport

@@ -1,7 +1,7 @@
 -- The report of a registry.
-use Rattle.std.specs.Prelude.{ℕ, zero, suc, pos, ◌+◌, ◌-◌, ◌*◌, ◌<◌, List, [], ◌∷◌, ◌++◌, map, Option, Some, None}
+use Rattle.std.specs.Prelude.{ℕ, pos, ◌+◌, ◌-◌, ◌*◌, List, [], ◌∷◌, ◌++◌, map, Option, Some, None}
 use Rattle.std.specs.List.{flat_map}
-use Rattle.std.proofs.Common.{refl, arith}
+use Rattle.std.proofs.Common.{refl}
 use Rattle.imm_base.specs.declared.val.Val.TheVariants.{Int}
 use Rattle.imm_base.specs.declared.comparers.ValEq.TheVariants as equalities
 use Rattle.plain_model.specs.declared.plain.Kind.TheVariants as kinds
@@ -16,7 +16,7 @@ use Rattle.plain_model.specs.History.{Numbered, last_value}
 use Rattle.plain_model.specs.Work.{Deed, work_from, local_lines}
 use Rattle.worked_examples.specs.LawfulExamples.{service}
 use Rattle.worked_examples.specs.RegistryExamples.{registry_cell, registry_part, RegistryExample}
-use Rattle.worked_examples.proofs.Built.{built, built_legal, built_by_one}
+use Rattle.worked_examples.proofs.Built.{only_zero, built, built_legal, built_by_one}
 
 abbrev nobody_yet : Plain
 nobody_yet = record { kind = kinds.Dict equalities.NoCase; values = values.Pairs [] }
@@ -43,11 +43,6 @@ lines_or_none None = []
 
 abbrev registry_lines : List LocalLine
 registry_lines = lines_or_none (work_from (registry_report ∷ []) 1 1 (map (λ p. registry_part) (numbers_from 1 4)))
-
--- the one number below 1
-only_zero : (P : ℕ → Type 0) → P 0 → (k : ℕ) → k < 1 → P k
-only_zero P p zero h = p
-only_zero P p (suc k) h = absurd (omega arith)
 
 pub registry_holds : RegistryExample
 registry_holds = record {

@@ -2,6 +2,7 @@ use Rattle.worked_examples.proofs.ExamplesHold.{lists_hold, sets_hold, maps_hold
 use Rattle.worked_examples.proofs.LawfulExamples.{lawful_hold, reports_hold}
 use Rattle.worked_examples.proofs.RegistryHolds.{registry_holds}
 use Rattle.worked_examples.proofs.examples_hold.Goals as goal
+use Rattle.worked_examples.proofs.GeneratedReport.{generated_report}
 use Rattle.worked_examples.proofs.GeneratorHolds.{holds_of_0, holds_of_7}
 
 pub returns : goal.returns
@@ -16,5 +17,5 @@ returns c = record {
   lawful = lawful_hold;
   limits = limits_hold;
   registry = registry_holds;
-  generated = record { of_0 = holds_of_0; of_7 = holds_of_7 };
+  generated = record { reports = generated_report; of_0 = holds_of_0; of_7 = holds_of_7 };
 }
