@@ -188,10 +188,10 @@ cells_told ds asks same (c ∷ cs) runs whole =
 
 -- ---- the report of one worker
 
-abbrev part_of : List Command → Part
+abbrev pub part_of : List Command → Part
 part_of cs = record { commands = cs }
 
-every_part : (f : ℕ → ℕ → Command) (js ps : List ℕ) → every 0 0 (map (λ p. part_of (map (f p) js)) ps) ≡ map (λ p. map (f p) js) ps
+pub every_part : (f : ℕ → ℕ → Command) (js ps : List ℕ) → every 0 0 (map (λ p. part_of (map (f p) js)) ps) ≡ map (λ p. map (f p) js) ps
 every_part f js [] = refl
 every_part f js (p ∷ ps) = ap (λ t. map (f p) js ∷ t) (every_part f js ps)
 
@@ -211,13 +211,13 @@ alone_told f g d js ps asks same cells y runs works =
 
 -- ---- the generated scripts
 
-abbrev call_in_turn : ℕ → Val → Asked
+abbrev pub call_in_turn : ℕ → Val → Asked
 call_in_turn zero v = (codes "D", calls.AddOrUpdate v (Int (pos 1)) (Plus (pos 1)))
 call_in_turn (suc zero) v = (codes "S", calls.Push v)
 call_in_turn (suc (suc zero)) v = (codes "Q", calls.Enqueue v)
 call_in_turn (suc (suc (suc k))) v = (codes "L", calls.Update (ops.Add v))
 
-turns_are_calls : (k : ℕ) (v : Val) → IsCall (in_turn k v) (call_in_turn k v)
+pub turns_are_calls : (k : ℕ) (v : Val) → IsCall (in_turn k v) (call_in_turn k v)
 turns_are_calls zero v cells w o s = refl
 turns_are_calls (suc zero) v cells w o s = refl
 turns_are_calls (suc (suc zero)) v cells w o s = refl

@@ -1,11 +1,13 @@
 -- What the calls of a generated script make of each cell.
-use Rattle.std.specs.Prelude.{◌≡◌, ℕ, ◌+◌, ◌≤◌, List, [], ◌∷◌, ◌++◌, length, map, fold, Some, Ok, Err, if◌then◌else◌}
+use Rattle.std.specs.Prelude.{◌≡◌, codes, ℕ, ◌+◌, ◌≤◌, List, [], ◌∷◌, ◌++◌, length, map, fold, Some, Ok, Err, if◌then◌else◌}
 use Rattle.std.proofs.Common.{refl, ap, sym, ◌∙◌, arith, append_assoc, length-append}
 use Rattle.std.proofs.lemmas.Bool.{le-ltb}
 use Rattle.imm_base.specs.declared.TheConstants.{LIMIT}
 use Rattle.imm_base.specs.declared.val.Val.{Val}
 use Rattle.imm_base.specs.declared.val.Edit.TheVariants.{New}
 use Rattle.imm_base.specs.Edits.{is_over, too_large}
+use Rattle.imm_base.specs.declared.comparers.ValEq.TheVariants as equalities
+use Rattle.plain_model.specs.declared.report.CellDecl.{CellDecl}
 use Rattle.plain_model.specs.declared.plain.Kind.TheVariants as kinds
 use Rattle.plain_model.specs.declared.plain.Values.TheVariants as values
 use Rattle.plain_model.specs.declared.plain.Plain.{Plain}
@@ -15,6 +17,20 @@ use Rattle.plain_model.specs.declared.commands.PlainCall.TheVariants as calls
 use Rattle.plain_model.specs.Plain.{of_list}
 use Rattle.plain_model.specs.Cell.{cell, update}
 use Rattle.worked_examples.proofs.Generated.{moved, stepped}
+
+-- ---- the cells, empty at first
+
+abbrev pub dict_cell : CellDecl
+dict_cell = record { name = codes "D"; kind = kinds.Dict equalities.Ordinal; values = values.Pairs [] }
+
+abbrev pub stack_cell : CellDecl
+stack_cell = record { name = codes "S"; kind = kinds.Stack; values = values.List [] }
+
+abbrev pub queue_cell : CellDecl
+queue_cell = record { name = codes "Q"; kind = kinds.Queue; values = values.List [] }
+
+abbrev pub list_cell : CellDecl
+list_cell = record { name = codes "L"; kind = kinds.List; values = values.List [] }
 
 -- ---- values put into a collection, each as one install
 

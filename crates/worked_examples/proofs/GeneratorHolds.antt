@@ -2,37 +2,22 @@
 use Rattle.std.specs.Prelude.{◌≡◌, ℕ, pos, ◌+◌, ◌*◌, ◌%◌, ◌≤◌, List, [], ◌∷◌, ◌++◌, length, map, fold, codes, decimal}
 use Rattle.std.specs.List.{flat_map}
 use Rattle.std.specs.Fmt.{digits}
-use Rattle.std.proofs.Common.{refl, ap, ◌∙◌, arith}
+use Rattle.std.proofs.Common.{refl, ap, sym, ◌∙◌, arith}
 use Rattle.imm_base.specs.declared.TheConstants.{LIMIT}
-use Rattle.imm_base.specs.declared.comparers.ValEq.TheVariants as equalities
 use Rattle.imm_base.specs.declared.val.Val.{Val}
 use Rattle.imm_base.specs.declared.val.Val.TheVariants.{Int}
-use Rattle.plain_model.specs.declared.plain.Kind.TheVariants as kinds
-use Rattle.plain_model.specs.declared.plain.Values.TheVariants as values
 use Rattle.plain_model.specs.declared.commands.PlainOp.TheVariants as ops
 use Rattle.plain_model.specs.declared.commands.PlainCall.{PlainCall}
 use Rattle.plain_model.specs.declared.commands.PlainCall.TheVariants as calls
-use Rattle.plain_model.specs.declared.report.CellDecl.{CellDecl}
 use Rattle.plain_model.specs.Frozen.{numbers_from}
 use Rattle.plain_model.specs.Locals.{Name}
 use Rattle.plain_model.specs.Text.{line, end_line}
-use Rattle.plain_model.specs.Generator.{generated, generated_cells, commands_in, cell_summary}
-use Rattle.worked_examples.specs.GeneratorExamples.{IsToldAs, summary_of_0, summary_of_7}
+use Rattle.plain_model.specs.Generator.{generated, generated_cells, commands_in, cell_summary, summary_text, IsSummary}
+use Rattle.worked_examples.specs.GeneratorExamples.{HasSummary, lines_text, summary_of_0, summary_of_7}
 use Rattle.worked_examples.proofs.Generated.{generated_asks, generated_told, told, outcome}
+use Rattle.worked_examples.proofs.GeneratedReport.{generated_report}
 use Rattle.worked_examples.proofs.Counted.{count_call, counted, dict_of, counts_told}
-use Rattle.worked_examples.proofs.GeneratedCells.{stack_of, queue_of, list_of, on_top, pushed, enqueued, added}
-
-abbrev dict_cell : CellDecl
-dict_cell = record { name = codes "D"; kind = kinds.Dict equalities.Ordinal; values = values.Pairs [] }
-
-abbrev stack_cell : CellDecl
-stack_cell = record { name = codes "S"; kind = kinds.Stack; values = values.List [] }
-
-abbrev queue_cell : CellDecl
-queue_cell = record { name = codes "Q"; kind = kinds.Queue; values = values.List [] }
-
-abbrev list_cell : CellDecl
-list_cell = record { name = codes "L"; kind = kinds.List; values = values.List [] }
+use Rattle.worked_examples.proofs.GeneratedCells.{dict_cell, stack_cell, queue_cell, list_cell, stack_of, queue_of, list_of, on_top, pushed, enqueued, added}
 
 -- the numbers of the commands whose place in turn is k, and as values
 abbrev numbers_in_turn : ℕ → ℕ → List ℕ
@@ -112,10 +97,16 @@ list_of_0 =
     let size : length (values_in_turn 0 3) ≡ 4000 = refl in
     list_told (generated_asks 0) (values_in_turn 0 3) list_calls_of_0 (omega (arith, size)) ∙ refl
 
-pub holds_of_0 : IsToldAs 0 summary_of_0
+only_of_0 : (text : List ℕ) → IsSummary 0 text → text ≡ lines_text summary_of_0
 unfolding digits
-holds_of_0 text s =
+only_of_0 text s =
     s.same ∙ ap (round 0) (generated_told 0 s.report s.lawful ∙ cells_told (generated_asks 0) _ _ _ _ dict_of_0 stack_of_0 queue_of_0 list_of_0) ∙ refl
+
+pub holds_of_0 : HasSummary 0 summary_of_0
+holds_of_0 =
+    let it = generated_report 0 in
+    let its : List ℕ = summary_text 0 (generated 0) it.0 in
+    record { has = record { report = it.0; lawful = it.1; same = sym (only_of_0 its (record { report = it.0; lawful = it.1; same = refl })) }; only = only_of_0 }
 
 -- ---- the script of the number 7
 
@@ -159,7 +150,13 @@ list_of_7 =
     let size : length (values_in_turn 7 3) ≡ 4000 = refl in
     list_told (generated_asks 7) (values_in_turn 7 3) list_calls_of_7 (omega (arith, size)) ∙ refl
 
-pub holds_of_7 : IsToldAs 7 summary_of_7
+only_of_7 : (text : List ℕ) → IsSummary 7 text → text ≡ lines_text summary_of_7
 unfolding digits
-holds_of_7 text s =
+only_of_7 text s =
     s.same ∙ ap (round 7) (generated_told 7 s.report s.lawful ∙ cells_told (generated_asks 7) _ _ _ _ dict_of_7 stack_of_7 queue_of_7 list_of_7) ∙ refl
+
+pub holds_of_7 : HasSummary 7 summary_of_7
+holds_of_7 =
+    let it = generated_report 7 in
+    let its : List ℕ = summary_text 7 (generated 7) it.0 in
+    record { has = record { report = it.0; lawful = it.1; same = sym (only_of_7 its (record { report = it.0; lawful = it.1; same = refl })) }; only = only_of_7 }

@@ -5,3 +5,6 @@ pub mod Generated
 pub mod GeneratedCells
 pub mod GeneratorHolds
 pub mod Counted
+pub mod Built
+pub mod RegistryHolds
+pub mod GeneratedReport

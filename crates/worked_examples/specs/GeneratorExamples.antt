@@ -1,12 +1,18 @@
 -- The summaries of two generated scripts.
 use Rattle.std.specs.Prelude.{◌≡◌, ◌++◌, ℕ, List, [], ◌∷◌, codes}
 use Rattle.std.specs.List.{flat_map}
-use Rattle.plain_model.specs.Generator.{IsSummary}
+use Rattle.plain_model.specs.declared.report.Report.{Report}
+use Rattle.plain_model.specs.Generator.{generated, IsSummary}
+use Rattle.plain_model.specs.Lawful.{Lawful}
 use Rattle.plain_model.specs.Text.{end_line}
 
--- a text that is a summary of the number has these lines
-abbrev pub IsToldAs : ℕ → List (List ℕ) → Type 0
-IsToldAs n lines = (text : List ℕ) → IsSummary n text → text ≡ flat_map (λ l. l ++ end_line) lines
+abbrev pub lines_text : List (List ℕ) → List ℕ
+lines_text lines = flat_map (λ l. l ++ end_line) lines
+
+-- the number has a summary of these lines, and no other
+pub record HasSummary (n : ℕ) (lines : List (List ℕ)) : Type 0 where
+  pub has : IsSummary n (lines_text lines)
+  pub only : (text : List ℕ) → IsSummary n text → text ≡ lines_text lines
 
 abbrev pub summary_of_0 : List (List ℕ)
 summary_of_0 =
@@ -31,5 +37,7 @@ summary_of_7 =
     ∷ []
 
 pub record GeneratorExamples : Type 0 where
-  pub of_0 : IsToldAs 0 summary_of_0
-  pub of_7 : IsToldAs 7 summary_of_7
+  -- the script of any number has a lawful report of one worker
+  pub reports : (n : ℕ) → (r : Report) × Lawful (generated n) 1 r
+  pub of_0 : HasSummary 0 summary_of_0
+  pub of_7 : HasSummary 7 summary_of_7

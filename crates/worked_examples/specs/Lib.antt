@@ -9,3 +9,4 @@ pub mod ReportExamples
 pub mod LawfulExamples
 pub mod LimitExamples
 pub mod GeneratorExamples
+pub mod RegistryExamples

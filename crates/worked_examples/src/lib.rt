@@ -13,6 +13,7 @@ ghost use Rattle.worked_examples.specs.LimitExamples.{LimitExamples};
 ghost use Rattle.worked_examples.specs.ReportExamples.{IsTold, report_examples};
 ghost use Rattle.worked_examples.specs.LawfulExamples.{LawfulExamples};
 ghost use Rattle.worked_examples.specs.GeneratorExamples.{GeneratorExamples};
+ghost use Rattle.worked_examples.specs.RegistryExamples.{RegistryExample};
 
 #[cfg(test)]
 mod tests;
@@ -29,4 +30,5 @@ pub fn examples_hold()
     ensures lawful { LawfulExamples }
     ensures limits { LimitExamples }
     ensures generated { GeneratorExamples }
+    ensures registry { RegistryExample }
 {}
