@@ -8,3 +8,6 @@ mod range;
 mod rekey;
 
 pub use map::SortedMap;
+
+#[cfg(test)]
+mod tests;

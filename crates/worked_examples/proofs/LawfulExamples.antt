@@ -13,16 +13,12 @@ use Rattle.plain_model.specs.Plain.{pairs, IsPlain}
 use Rattle.plain_model.specs.Frozen.{numbers_from, frozen_pairs}
 use Rattle.plain_model.specs.Work.{work_from}
 use Rattle.worked_examples.proofs.Alone.{alone}
+use Rattle.worked_examples.proofs.Built.{only_zero}
 use Rattle.worked_examples.specs.ReportExamples.{ReportExample, IsTold, report_examples, adding_and_reading, read_between, equal_value_installs, queue_emptied, greatest_sum, publications, two_parts, added_and_updated, removed, transformed_texts, stack_calls}
 use Rattle.worked_examples.specs.LawfulExamples.{LawfulExamples, two_spellings, falling, wanting_cell, nothing_script, nothing_report, wanting_script, wanting_report, registry, service, HasLines, nothing_lines, second_wins_lines, reading, seen}
 
 abbrev IsLawfulAlone : ReportExample → Type 0
 IsLawfulAlone e = Lawful e.script 1 (alone e.script)
-
--- the one number below 1
-only_zero : (P : ℕ → Type 0) → P 0 → (k : ℕ) → k < 1 → P k
-only_zero P p zero h = p
-only_zero P p (suc k) h = absurd (omega arith)
 
 adding_and_reading_lawful : IsLawfulAlone adding_and_reading
 adding_and_reading_lawful = record {

@@ -1,3 +1,10 @@
 pub mod Alone
 pub mod ExamplesHold
 pub mod LawfulExamples
+pub mod Generated
+pub mod GeneratedCells
+pub mod GeneratorHolds
+pub mod Counted
+pub mod Built
+pub mod RegistryHolds
+pub mod GeneratedReport

@@ -8,3 +8,5 @@ pub mod WalkExamples
 pub mod ReportExamples
 pub mod LawfulExamples
 pub mod LimitExamples
+pub mod GeneratorExamples
+pub mod RegistryExamples
