@@ -15,7 +15,6 @@ use Rattle.plain_model.specs.Plain.{count, made, plain, nothing}
 use Rattle.plain_model.specs.Work.{on_cell, publish_limit}
 use Rattle.plain_model.specs.Queries.{answer, shown}
 use Rattle.plain_model.specs.Locals.{◌>>=◌, Name, Locals, Bound, collection, op_on, query_on, edited}
-use Rattle.script.specs.declared.lookup.LocalName.{LocalName}
 use Rattle.script.specs.Drafts.{cell_kind, local_kind, with_name}
 use Rattle.script.specs.Ready.{is_bound, is_declared, is_source, binds, is_built, is_ready}
 use Rattle.immrun_core.specs.declared.cells.Running.{Running}
@@ -25,6 +24,13 @@ use Rattle.immrun_core.specs.Names.{value_of, Binds, BindsSome, Agree, bound_to,
 use Rattle.immrun_core.specs.Effects.{Effect, local_effect, read_effect, publish_effect, effect}
 use Rattle.immrun_core.proofs.Deeds.{is_there, some_of}
 use Rattle.immrun_core.specs.Works.{ordinal_of}
+
+-- A local name with its kind: what a command of a script binds. Its type is named so, since the grammar keeps it to itself.
+abbrev pub Inside : {A : Type 0} → Option A → Type 0
+Inside {A} o = A
+
+abbrev pub LocalName : Type 0
+LocalName = Inside (binds [] [] (commands.Show []))
 
 both_left : (a b : Bool) → (a && b) ≡ true → a ≡ true
 both_left true b e = refl

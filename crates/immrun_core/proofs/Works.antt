@@ -9,7 +9,6 @@ use Rattle.plain_model.specs.declared.report.CellReport.{CellReport}
 use Rattle.plain_model.specs.declared.report.LocalLine.{LocalLine}
 use Rattle.plain_model.specs.Locals.{◌>>=◌, Locals, no_locals}
 use Rattle.plain_model.specs.Work.{Deed, local_line, on_cell, as_local_line, deed_of, deeds_of, work_from, local_lines}
-use Rattle.script.specs.declared.lookup.LocalName.{LocalName}
 use Rattle.script.specs.Drafts.{with_name}
 use Rattle.script.specs.Ready.{binds, is_ready, AreReady}
 use Rattle.immrun_core.specs.declared.cells.Running.{Running}
@@ -20,7 +19,7 @@ use Rattle.immrun_core.specs.Effects.{Effect, effect, Turn, Had, HasSome}
 use Rattle.immrun_core.specs.Works.{Stands, told_later, ordinal_after, Went}
 use Rattle.immrun_core.proofs.Stands.{told_after, all_stand_on, filter_map_on}
 use Rattle.immrun_core.proofs.Deeds.{effect_done, done_by}
-use Rattle.immrun_core.proofs.Readiness.{Known, Acts, acts, agree_on}
+use Rattle.immrun_core.proofs.Readiness.{LocalName, Known, Acts, acts, agree_on}
 
 -- ---- deeds, and those after them
 
