@@ -5,11 +5,14 @@ use Rattle.std.specs.List.{AllByRecursion, list_all}
 use Rattle.std.specs.Str.{bytes_eq}
 use Rattle.std.proofs.lemmas.Slice.Eq.{bytes_eq-Decides}
 use Rattle.std.proofs.lemmas.Bool.{and_parts, and_from, ltb-true, eqb-true}
+use Rattle.plain_model.specs.declared.plain.Kind.{Kind}
+use Rattle.plain_model.specs.declared.plain.Comparer.{Comparer}
 use Rattle.plain_model.specs.declared.commands.Command.{Command}
 use Rattle.plain_model.specs.declared.report.CellDecl.{CellDecl}
 use Rattle.plain_model.specs.declared.report.Part.{Part}
 use Rattle.plain_model.specs.declared.report.Script.{Script}
 use Rattle.plain_model.specs.declared.commands.Command.TheVariants as commands
+use Rattle.plain_model.specs.Locals.{with_comparer}
 use Rattle.plain_model.specs.Sources.{is_within, are_within, op_values, query_values}
 use Rattle.script.specs.declared.fault.Code.{Code}
 use Rattle.script.specs.declared.fault.Code.TheVariants.{Header, Word, Name, Kind as KindCode, Structure, Limit}
@@ -21,9 +24,9 @@ use Rattle.script.specs.Judging.{◌>>=◌}
 use Rattle.script.specs.Lines.{script_lines}
 use Rattle.script.specs.Words.{words}
 use Rattle.script.specs.Arguments.{line_of}
-use Rattle.script.specs.Drafts.{cell_kind, with_name, rebinds_ok}
-use Rattle.script.specs.Ready.{is_built, is_declared, is_bound, is_source, binds, is_ready, AreReady, AreDistinct, HasFirst, IsReady}
-use Rattle.script.specs.Placing.{has_names, names_ok, fits, kinds_ok, structure_ok, is_short, first_fits, commands_so_far, may_publish, command_is_short, limits_ok, after, placed}
+use Rattle.script.specs.Drafts.{cell_kind, local_kind, for_all, with_name, rebinds_ok}
+use Rattle.script.specs.Ready.{is_built, is_declared, is_bound, is_source, rekeyed, binds, is_ready, AreReady, AreDistinct, HasFirst, IsReady}
+use Rattle.script.specs.Placing.{has_names, names_ok, form_of_kind, from_fits, fits, kinds_ok, structure_ok, is_short, first_fits, commands_so_far, may_publish, command_is_short, limits_ok, after, placed}
 use Rattle.script.specs.Reading.{is_allowed, is_passed_over, is_header, passed, first_judged, significant, judged, start, script_of, at_line, read_lines}
 use Rattle.script.specs.Grammar.{read_script}
 use Rattle.script.proofs.Judgements.{guard_ok, bind_ok, moved}
@@ -87,13 +90,21 @@ AreDistinct-more (d ∷ cells) cell h e =
 
 -- ---- commands
 
+-- a kind that may have the comparer
+is_rekeyed : (kind : Option Kind) (comparer : Comparer) → is_some kind ≡ true → for_all (λ k. is_some (with_comparer k comparer)) kind ≡ true → is_some (rekeyed kind comparer) ≡ true
+is_rekeyed None comparer h g = absurd cc
+is_rekeyed (Some k) comparer h g = g
+
 -- a command that has its names, goes with their kinds and has values for integers is ready
 is_ready-from : (cells : List CellDecl) (names : List LocalName) (c : Command) → has_names cells names c ≡ true → fits cells names c ≡ true → command_within c ≡ true → is_ready cells names c ≡ true
 is_ready-from cells names (commands.Update cell op) has fit within = and_from (is_declared cells cell) (are_within (op_values op)) has within
 is_ready-from cells names (commands.Read cell x) has fit within = has
 is_ready-from cells names (commands.Publish cell x) has fit within = has
-is_ready-from cells names (commands.New x kind src from) has fit within = and_from (is_built kind && is_source names from) (is_within src) (and_from (is_built kind) (is_source names from) fit has) within
+is_ready-from cells names (commands.New x kind src from) has fit within =
+    let built = and_parts (is_built kind) (from_fits names (form_of_kind kind) from) fit in
+    and_from (is_built kind && is_source names from) (is_within src) (and_from (is_built kind) (is_source names from) built.0 has) within
 is_ready-from cells names (commands.Let y x op from) has fit within = and_from (is_bound names x && is_source names from) (are_within (op_values op)) has within
+is_ready-from cells names (commands.Rekey y x comparer) has fit within = is_rekeyed (local_kind names x) comparer has fit
 is_ready-from cells names (commands.Ask x query from) has fit within = and_from (is_bound names x && is_source names from) (are_within (query_values query)) has within
 is_ready-from cells names (commands.Show x) has fit within = has
 is_ready-from cells names _ has fit within = absurd cc

@@ -21,6 +21,8 @@ for_all test (Some a) = test a
 -- a kind is the same whatever its comparer: a row for each that is built
 abbrev pub same_kind : Kind → Kind → Bool
 same_kind kinds.List kinds.List = true
+same_kind (kinds.SSet order) (kinds.SSet by) = true
+same_kind (kinds.SMap order) (kinds.SMap by) = true
 same_kind _ _ = false
 
 -- a name that is bound again keeps its kind

@@ -1,6 +1,8 @@
 -- What a line may do after the lines before it, and what it makes of them.
-use Rattle.std.specs.Prelude.{ℕ, ◌+◌, List, [], ◌∷◌, ◌++◌, length, Bool, true, false, not, ◌&&◌, nat_lt, nat_le, ◌==◌, Some, None, is_some, is_none, unwrap_or, Result, Ok, Err, is_ok, if◌then◌else◌}
+use Rattle.std.specs.Prelude.{ℕ, ◌+◌, List, [], ◌∷◌, ◌++◌, length, Bool, true, false, not, ◌&&◌, nat_lt, nat_le, ◌==◌, Option, Some, None, is_some, is_none, unwrap_or, Result, Ok, Err, is_ok, if◌then◌else◌}
 use Rattle.imm_base.specs.declared.TheConstants.{LIMIT}
+use Rattle.imm_base.specs.declared.comparers.ValOrder.{ValOrder}
+use Rattle.imm_base.specs.declared.comparers.ValOrder.TheVariants as orders
 use Rattle.plain_model.specs.declared.plain.Kind.{Kind}
 use Rattle.plain_model.specs.declared.plain.Kind.TheVariants as kinds
 use Rattle.plain_model.specs.declared.plain.Values.{Values}
@@ -13,8 +15,12 @@ use Rattle.plain_model.specs.declared.commands.Command.{Command}
 use Rattle.plain_model.specs.declared.commands.Command.TheVariants as commands
 use Rattle.plain_model.specs.declared.report.CellDecl.{CellDecl}
 use Rattle.plain_model.specs.Plain.{made}
+use Rattle.plain_model.specs.Locals.{with_comparer}
+use Rattle.plain_model.specs.Sources.{op_values, query_values}
 use Rattle.script.specs.declared.fault.Code.{Code}
 use Rattle.script.specs.declared.fault.Code.TheVariants.{Name, Kind as KindCode, Structure, Limit}
+use Rattle.script.specs.declared.line.Form.{Form}
+use Rattle.script.specs.declared.line.Form.TheVariants as forms
 use Rattle.script.specs.declared.line.Line.{Line}
 use Rattle.script.specs.declared.line.Line.TheVariants as lines
 use Rattle.script.specs.declared.lookup.LocalName.{LocalName}
@@ -31,6 +37,7 @@ has_names cells names (commands.Read cell x) = is_declared cells cell
 has_names cells names (commands.Publish cell x) = is_declared cells cell && is_bound names x
 has_names cells names (commands.New x kind src from) = is_source names from
 has_names cells names (commands.Let y x op from) = is_bound names x && is_source names from
+has_names cells names (commands.Rekey y x comparer) = is_bound names x
 has_names cells names (commands.Ask x query from) = is_bound names x && is_source names from
 has_names cells names (commands.Show x) = is_bound names x
 has_names cells names _ = false
@@ -61,8 +68,32 @@ list_takes (ops.Sort order) = true
 list_takes ops.Clear = true
 list_takes _ = false
 
+-- those of sets
+abbrev pub set_takes : PlainOp → Bool
+set_takes (ops.Add v) = true
+set_takes (ops.Remove v) = true
+set_takes (ops.Union vs) = true
+set_takes (ops.Intersect vs) = true
+set_takes (ops.Except vs) = true
+set_takes (ops.SymExcept vs) = true
+set_takes ops.Clear = true
+set_takes _ = false
+
+-- and those of maps
+abbrev pub map_takes : PlainOp → Bool
+map_takes (ops.AddPair k v) = true
+map_takes (ops.AddPairs ps) = true
+map_takes (ops.SetPair k v) = true
+map_takes (ops.SetPairs ps) = true
+map_takes (ops.RemoveKey k) = true
+map_takes (ops.RemoveKeys ks) = true
+map_takes ops.Clear = true
+map_takes _ = false
+
 abbrev pub takes : Kind → PlainOp → Bool
 takes kinds.List op = list_takes op
+takes (kinds.SSet order) op = set_takes op
+takes (kinds.SMap order) op = map_takes op
 takes _ op = false
 
 -- the questions that lists answer
@@ -75,22 +106,82 @@ list_answers (queries.Search order v) = true
 list_answers (queries.Contains v) = true
 list_answers _ = false
 
+-- sorted sets
+abbrev pub set_answers : Query → Bool
+set_answers queries.Count = true
+set_answers (queries.Get i) = true
+set_answers (queries.IndexOf v) = true
+set_answers (queries.Contains v) = true
+set_answers (queries.Actual v) = true
+set_answers queries.Min = true
+set_answers queries.Max = true
+set_answers (queries.Subset vs) = true
+set_answers (queries.Superset vs) = true
+set_answers (queries.ProperSubset vs) = true
+set_answers (queries.ProperSuperset vs) = true
+set_answers (queries.Overlaps vs) = true
+set_answers (queries.SetEquals vs) = true
+set_answers _ = false
+
+-- and maps
+abbrev pub map_answers : Query → Bool
+map_answers queries.Count = true
+map_answers (queries.Lookup k) = true
+map_answers (queries.KeyOf k) = true
+map_answers (queries.HasValue v) = true
+map_answers queries.Keys = true
+map_answers queries.Values = true
+map_answers _ = false
+
 abbrev pub answers : Kind → Query → Bool
 answers kinds.List query = list_answers query
+answers (kinds.SSet order) query = set_answers query
+answers (kinds.SMap order) query = map_answers query
 answers _ query = false
 
 -- the very kind, with its comparer
+abbrev pub is_order : ValOrder → ValOrder → Bool
+is_order orders.Ordinal orders.Ordinal = true
+is_order orders.Reverse orders.Reverse = true
+is_order orders.NoCase orders.NoCase = true
+is_order _ _ = false
+
 abbrev pub is_kind : Kind → Kind → Bool
 is_kind kinds.List kinds.List = true
+is_kind (kinds.SSet order) (kinds.SSet by) = is_order order by
+is_kind (kinds.SMap order) (kinds.SMap by) = is_order order by
 is_kind _ _ = false
+
+-- ---- what a local collection gives, and what is to be given
+
+abbrev pub form_of_kind : Kind → Form
+form_of_kind (kinds.SMap order) = forms.Pairs
+form_of_kind _ = forms.Elements
+
+abbrev pub form_of_op : PlainOp → Form
+form_of_op (ops.AddPairs ps) = forms.Pairs
+form_of_op (ops.SetPairs ps) = forms.Pairs
+form_of_op _ = forms.Elements
+
+abbrev pub is_form : Form → Form → Bool
+is_form forms.Elements forms.Elements = true
+is_form forms.Pairs forms.Pairs = true
+is_form _ _ = false
+
+-- the local collection that gives the values, if one does, gives those that are needed
+abbrev pub from_fits : List LocalName → Form → Option (List ℕ) → Bool
+from_fits names form from = for_all (λ x. for_all (λ kind. is_form form (form_of_kind kind)) (local_kind names x)) from
+
+-- ---- commands
 
 -- an operation or a question is one of the kind that it is on, what is published has the kind of the cell, and a new collection is of a kind that is built
 abbrev pub fits : List CellDecl → List LocalName → Command → Bool
 fits cells names (commands.Update cell op) = for_all (λ kind. takes kind op) (cell_kind cells cell)
 fits cells names (commands.Publish cell x) = for_all (λ kind. for_all (is_kind kind) (local_kind names x)) (cell_kind cells cell)
-fits cells names (commands.New x kind src from) = is_built kind
-fits cells names (commands.Let y x op from) = for_all (λ kind. takes kind op) (local_kind names x)
-fits cells names (commands.Ask x query from) = for_all (λ kind. answers kind query) (local_kind names x)
+fits cells names (commands.New x kind src from) = is_built kind && from_fits names (form_of_kind kind) from
+fits cells names (commands.Let y x op from) = for_all (λ kind. takes kind op) (local_kind names x) && from_fits names (form_of_op op) from
+fits cells names (commands.Rekey y x comparer) = for_all (λ kind. is_some (with_comparer kind comparer)) (local_kind names x)
+fits cells names (commands.Ask x query from) = for_all (λ kind. answers kind query) (local_kind names x) && from_fits names forms.Elements from
 fits cells names _ = true
 
 abbrev pub kinds_ok : Draft → Line → Bool
@@ -114,15 +205,11 @@ abbrev pub is_short : Values → Bool
 is_short (values.Seq first count) = nat_le count LIMIT
 is_short _ = true
 
-abbrev pub op_is_short : PlainOp → Bool
-op_is_short (ops.AddRange vs) = is_short vs
-op_is_short (ops.InsertRange i vs) = is_short vs
-op_is_short _ = true
-
 abbrev pub command_is_short : Command → Bool
-command_is_short (commands.Update cell op) = op_is_short op
+command_is_short (commands.Update cell op) = for_all is_short (op_values op)
 command_is_short (commands.New x kind vs from) = is_short vs
-command_is_short (commands.Let y x op from) = op_is_short op
+command_is_short (commands.Let y x op from) = for_all is_short (op_values op)
+command_is_short (commands.Ask x query from) = for_all is_short (query_values query)
 command_is_short _ = true
 
 -- the first contents of a cell are not too many

@@ -5,11 +5,13 @@ use Rattle.std.specs.Option.{option_map}
 use Rattle.std.specs.Result.{is_ok}
 use Rattle.plain_model.specs.declared.plain.Kind.{Kind}
 use Rattle.plain_model.specs.declared.plain.Kind.TheVariants as kinds
+use Rattle.plain_model.specs.declared.plain.Comparer.{Comparer}
 use Rattle.plain_model.specs.declared.commands.Command.{Command}
 use Rattle.plain_model.specs.declared.commands.Command.TheVariants as commands
 use Rattle.plain_model.specs.declared.report.CellDecl.{CellDecl}
 use Rattle.plain_model.specs.declared.report.Script.{Script}
 use Rattle.plain_model.specs.Plain.{made}
+use Rattle.plain_model.specs.Locals.{with_comparer}
 use Rattle.plain_model.specs.Sources.{is_within, are_within, op_values, query_values}
 use Rattle.script.specs.declared.lookup.LocalName.{LocalName}
 use Rattle.script.specs.Drafts.{cell_kind, local_kind, with_name, rebinds_ok}
@@ -19,6 +21,8 @@ use Rattle.script.specs.Drafts.{cell_kind, local_kind, with_name, rebinds_ok}
 -- the kinds of collections that can be run: a row for each
 abbrev pub is_built : Kind → Bool
 is_built kinds.List = true
+is_built (kinds.SSet order) = true
+is_built (kinds.SMap order) = true
 is_built _ = false
 
 abbrev pub is_declared : List CellDecl → List ℕ → Bool
@@ -34,11 +38,17 @@ is_source names (Some x) = is_bound names x
 
 -- ---- commands: a row for each that can be run
 
+-- the kind with another comparer, if there is one and it may have it
+abbrev pub rekeyed : Option Kind → Comparer → Option Kind
+rekeyed None comparer = None
+rekeyed (Some kind) comparer = with_comparer kind comparer
+
 -- the local name that a command binds, with its kind
 abbrev pub binds : List CellDecl → List LocalName → Command → Option LocalName
 binds cells names (commands.Read cell x) = option_map (λ k. record { name = x; kind = k }) (cell_kind cells cell)
 binds cells names (commands.New x kind src from) = Some (record { name = x; kind = kind })
 binds cells names (commands.Let y x op from) = option_map (λ k. record { name = y; kind = k }) (local_kind names x)
+binds cells names (commands.Rekey y x comparer) = option_map (λ k. record { name = y; kind = k }) (rekeyed (local_kind names x) comparer)
 binds cells names _ = None
 
 -- the names of a command are declared and bound, as it needs them
@@ -48,6 +58,7 @@ is_ready cells names (commands.Read cell x) = is_declared cells cell
 is_ready cells names (commands.Publish cell x) = is_declared cells cell && is_bound names x
 is_ready cells names (commands.New x kind src from) = is_built kind && is_source names from && is_within src
 is_ready cells names (commands.Let y x op from) = is_bound names x && is_source names from && are_within (op_values op)
+is_ready cells names (commands.Rekey y x comparer) = is_some (rekeyed (local_kind names x) comparer)
 is_ready cells names (commands.Ask x query from) = is_bound names x && is_source names from && are_within (query_values query)
 is_ready cells names (commands.Show x) = is_bound names x
 is_ready cells names _ = false

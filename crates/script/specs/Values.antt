@@ -1,5 +1,5 @@
 -- Words that stand for names and values, and the values at the end of a line.
-use Rattle.std.specs.Prelude.{ℕ, ◌-◌, ◌^◌, List, [], ◌∷◌, length, take, slice_index, Bool, false, ◌&&◌, ◌||◌, nat_le, ◌==◌, Option, Some, None, Result, Ok, Err, if◌then◌else◌, ℤ, pos, ◌+ℤ◌, int_le}
+use Rattle.std.specs.Prelude.{ℕ, ◌+◌, ◌-◌, ◌^◌, List, [], ◌∷◌, length, take, drop, slice_index, Bool, false, not, ◌&&◌, ◌||◌, nat_le, ◌==◌, Option, Some, None, Result, Ok, Err, if◌then◌else◌, ℤ, pos, ◌+ℤ◌, int_le}
 use Rattle.std.specs.Prelude.{codes as bytes}
 use Rattle.std.specs.List.{list_all}
 use Rattle.std.specs.Option.{option_map}
@@ -13,6 +13,8 @@ use Rattle.imm_base.specs.declared.comparers.ValTest.{ValTest}
 use Rattle.imm_base.specs.declared.comparers.ValTest.TheVariants as tests
 use Rattle.imm_base.specs.Text.{is_plain_byte}
 use Rattle.plain_model.specs.declared.plain.Kind.TheVariants as kinds
+use Rattle.plain_model.specs.declared.plain.Comparer.{Comparer}
+use Rattle.plain_model.specs.declared.plain.Comparer.TheVariants as comparers
 use Rattle.plain_model.specs.declared.plain.Values.{Values}
 use Rattle.plain_model.specs.declared.plain.Values.TheVariants as values
 use Rattle.script.specs.declared.fault.Code.{Code}
@@ -23,8 +25,11 @@ use Rattle.script.specs.declared.line.TestWord.{TestWord}
 use Rattle.script.specs.declared.line.TestWord.TheVariants as test_words
 use Rattle.script.specs.declared.line.Place.{Place}
 use Rattle.script.specs.declared.line.Place.TheVariants as places
+use Rattle.script.specs.declared.line.Form.{Form}
+use Rattle.script.specs.declared.line.Form.TheVariants as forms
 use Rattle.script.specs.declared.line.Source.{Source}
 use Rattle.script.specs.declared.line.Contents.{Contents}
+use Rattle.script.specs.Words.{quoted_after}
 use Rattle.script.specs.Numerals.{number_of, integer_of}
 use Rattle.script.specs.Judging.{◌>>=◌, ◌⊗◌, some_or, entry}
 
@@ -48,6 +53,19 @@ value_of (b ∷ bs) = if b == 34 then option_map vals.Text (closed bs) else opti
 
 abbrev pub value : List ℕ → Result Val Code
 value word = some_or Value (value_of word)
+
+-- the place of the first equals sign that stands in no pair of quotes
+abbrev pub equals_sign : Bool → List ℕ → Option ℕ
+equals_sign quoted [] = None
+equals_sign quoted (b ∷ bs) = if b == 61 && not quoted then Some 0 else option_map (λ i. i + 1) (equals_sign (quoted_after quoted b) bs)
+
+abbrev pub pair_at : List ℕ → Option ℕ → Result (Val × Val) Code
+pair_at word None = Err Value
+pair_at word (Some i) = value (take i word) ⊗ value (drop (i + 1) word)
+
+-- a key, an equals sign and a value, without spaces
+abbrev pub pair : List ℕ → Result (Val × Val) Code
+pair word = pair_at word (equals_sign false word)
 
 abbrev pub integer : List ℕ → Result ℤ Code
 integer word = some_or Value (integer_of word)
@@ -100,16 +118,30 @@ test_of test_words.Is v = tests.Is v
 test_of test_words.Below v = tests.Below v
 test_of test_words.Above v = tests.Above v
 
+unfoldable pub comparer : List ℕ → Result Comparer Code
+comparer = entry (
+    (bytes "ordinal", comparers.Ordinal) ∷
+    (bytes "reverse", comparers.Reverse) ∷
+    (bytes "nocase", comparers.NoCase) ∷
+    [])
+
 abbrev pub kind_word : List ℕ → Result KindWord Code
 kind_word = entry (
     (bytes "list", kind_words.List) ∷
+    (bytes "sset", kind_words.SSet) ∷
+    (bytes "smap", kind_words.SMap) ∷
     [])
 
 -- ---- the values at the end of a line
 
-abbrev pub listed : List (List ℕ) → Result (List Val) Code
-listed [] = Ok []
-listed (word ∷ words) = value word >>= λ v. listed words >>= λ vs. Ok (v ∷ vs)
+-- each word read
+abbrev pub each : {A : Type 0} → (List ℕ → Result A Code) → List (List ℕ) → Result (List A) Code
+each read [] = Ok []
+each read (word ∷ words) = read word >>= λ x. each read words >>= λ xs. Ok (x ∷ xs)
+
+abbrev pub listed : Form → List (List ℕ) → Result Values Code
+listed forms.Elements words = each value words >>= λ vs. Ok (values.List vs)
+listed forms.Pairs words = each pair words >>= λ ps. Ok (values.Pairs ps)
 
 -- so many integers from the first on, none of which passes 64 bits
 abbrev pub sequence : ℤ → ℕ → Result Values Code
@@ -120,26 +152,28 @@ seq_words (first ∷ count ∷ []) = (integer first ⊗ number count) >>= λ (f,
 seq_words words = Err Word
 
 -- values one after another, or `seq` with the first and how many
-abbrev pub values_of : List (List ℕ) → Result Values Code
-values_of [] = Ok (values.List [])
-values_of (word ∷ words) = if bytes_eq word (bytes "seq") then seq_words words
-    else (listed (word ∷ words) >>= λ vs. Ok (values.List vs))
+abbrev pub values_of : Form → List (List ℕ) → Result Values Code
+values_of form [] = listed form []
+values_of form (word ∷ words) = if bytes_eq word (bytes "seq") then seq_words words else listed form (word ∷ words)
 
-abbrev pub given : List (List ℕ) → Result Source Code
-given words = values_of words >>= λ vs. Ok (record { values = vs; from = None })
+abbrev pub given : Form → List (List ℕ) → Result Source Code
+given form words = values_of form words >>= λ vs. Ok (record { values = vs; from = None })
 
 -- a local collection gives the values, where no cell takes them
 abbrev pub from_name : Place → List (List ℕ) → Result Source Code
 from_name places.Local (x ∷ []) = local_name x >>= λ n. Ok (record { values = values.List []; from = Some n })
 from_name place words = Err Word
 
-abbrev pub source : Place → List (List ℕ) → Result Source Code
-source place [] = given []
-source place (word ∷ words) = if bytes_eq word (bytes "from") then from_name place words else given (word ∷ words)
+abbrev pub source : Place → Form → List (List ℕ) → Result Source Code
+source place form [] = given form []
+source place form (word ∷ words) = if bytes_eq word (bytes "from") then from_name place words else given form (word ∷ words)
 
 -- a row for each kind, with the words that follow it
 abbrev pub contents_of : Place → KindWord → List (List ℕ) → Result Contents Code
-contents_of place kind_words.List words = source place words >>= λ s. Ok (record { kind = kinds.List; source = s })
+contents_of place kind_words.List words = source place forms.Elements words >>= λ s. Ok (record { kind = kinds.List; source = s })
+contents_of place kind_words.SSet (o ∷ words) = (order o ⊗ source place forms.Elements words) >>= λ (by, s). Ok (record { kind = kinds.SSet by; source = s })
+contents_of place kind_words.SMap (o ∷ words) = (order o ⊗ source place forms.Pairs words) >>= λ (by, s). Ok (record { kind = kinds.SMap by; source = s })
+contents_of place word [] = Err Word
 
 -- a kind, and the values of a collection of it
 unfoldable pub contents : Place → List ℕ → List (List ℕ) → Result Contents Code

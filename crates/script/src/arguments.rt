@@ -1,6 +1,6 @@
 //! What the words of a line say, whatever stands on the other lines.
 
-ghost use Rattle.std.specs.Prelude.{◌≡◌, IfOk};
+ghost use Rattle.std.specs.Prelude.{◌≡◌, [], ◌∷◌, IfOk};
 ghost use Rattle.script.specs.Words.{seen};
 ghost use Rattle.script.specs.Judging.{◌⊗◌};
 ghost use Rattle.script.specs.Values.{local_name};
@@ -13,12 +13,12 @@ use crate::line::{Head, Line, Place};
 use crate::operations::op;
 use crate::queries::query;
 use crate::table::entry;
-use crate::values::{cell_name, contents, local_name};
+use crate::values::{cell_name, comparer, contents, local_name};
 use imm_base::{Memory, Text24};
 use plain_model::{CellDecl, Command};
 use std::alloc::Global;
 
-const HEADS: [(&[u8], Head); 10] = [
+const HEADS: [(&[u8], Head); 11] = [
     (b"cell", Head::Cell),
     (b"worker", Head::Worker),
     (b"end", Head::End),
@@ -27,6 +27,7 @@ const HEADS: [(&[u8], Head); 10] = [
     (b"publish", Head::Publish),
     (b"new", Head::New),
     (b"let", Head::Let),
+    (b"rekey", Head::Rekey),
     (b"ask", Head::Ask),
     (b"show", Head::Show),
 ];
@@ -131,16 +132,38 @@ fn let_line(alloc: Global, words: &[&[u8]]) -> Result<Result<Line, Code>, Memory
 }
 
 #[tactic(auto, unfolding(crate::specs::Arguments::arguments))]
-fn ask_line(words: &[&[u8]]) -> Result<Line, Code>
-    ensures { result ≡ arguments heads.Ask (seen words.now) }
+fn rekey_with(new: &[u8], old: &[u8], order: &[u8]) -> Result<Line, Code>
+    ensures { result ≡ arguments heads.Rekey (new.now ∷ old.now ∷ order.now ∷ []) }
+{
+    both(two_names(new, old), comparer(order)).map(|((new, old), comparer)| Line::Command(
+        Command::Rekey(new, old, comparer),
+    ))
+}
+
+#[tactic(auto, unfolding(crate::specs::Arguments::arguments))]
+fn rekey_line(words: &[&[u8]]) -> Result<Line, Code>
+    ensures { result ≡ arguments heads.Rekey (seen words.now) }
+{
+    match words {
+        [y, x, c] => rekey_with(y, x, c),
+        _ => Err(Code::Word),
+    }
+}
+
+#[tactic(auto, unfolding(crate::specs::Arguments::arguments))]
+fn ask_line(alloc: Global, words: &[&[u8]]) -> Result<Result<Line, Code>, Memory>
+    ensures { IfOk result (λ read. read ≡ arguments heads.Ask (seen words.now)) }
 {
     match words {
         [x, q, ws @ ..] => {
-            both(local_name(x), query(q, ws)).map(|(name, query)| Line::Command(Command::Ask(
-                name, query, None,
-            )))
+            let query = query(alloc, q, ws)?;
+            Ok(both(local_name(x), query).map(|(name, asked)| Line::Command(Command::Ask(
+                name,
+                asked.query,
+                asked.from,
+            ))))
         }
-        _ => Err(Code::Word),
+        _ => Ok(Err(Code::Word)),
     }
 }
 
@@ -186,7 +209,8 @@ fn arguments(alloc: Global, head: Head, words: &[&[u8]]) -> Result<Result<Line, 
         Head::Publish => Ok(publish_line(words)),
         Head::New => new_line(alloc, words),
         Head::Let => let_line(alloc, words),
-        Head::Ask => Ok(ask_line(words)),
+        Head::Rekey => Ok(rekey_line(words)),
+        Head::Ask => ask_line(alloc, words),
         Head::Show => Ok(show_line(words)),
     }
 }

@@ -5,7 +5,7 @@ ghost use Rattle.std.specs.List.{list_all};
 ghost use Rattle.script.specs.Words.{seen};
 ghost use Rattle.script.specs.declared.line.Line.TheVariants as lines;
 ghost use Rattle.script.specs.Drafts.{with_name};
-ghost use Rattle.script.specs.Ready.{binds};
+ghost use Rattle.script.specs.Ready.{is_built, binds};
 ghost use Rattle.script.specs.Placing.{names_ok, kinds_ok, structure_ok, may_publish, commands_so_far, limits_ok, after, placed};
 ghost use Rattle.script.specs.Reading.{is_allowed, is_comment, is_passed_over, is_header, passed, first_judged, significant, judged, start, script_of, IsStep};
 
@@ -173,17 +173,27 @@ impl Draft {
             && command_is_short(command)
     }
 
-    fn limits_ok(&self, line: &Line) -> bool
+    /// Whether there is room for a cell with its first contents.
+    fn has_place(&self, alloc: Global, cell: &CellDecl) -> Result<bool, Memory>
+        requires { is_built cell.now.kind ≡ true }
+        ensures { IfOk result (λ ok. ok ≡ limits_ok self.now (lines.Cell cell.now)) }
+    {
+        if self.cells.as_slice().len() < 16 && is_short(&cell.values) {
+            first_fits(alloc, cell)
+        } else {
+            Ok(false)
+        }
+    }
+
+    fn limits_ok(&self, alloc: Global, line: &Line) -> Result<bool, Memory>
         requires { kinds_ok self.now line.now ≡ true }
-        ensures { result ≡ limits_ok self.now line.now }
+        ensures { IfOk result (λ ok. ok ≡ limits_ok self.now line.now) }
     {
         match line {
-            Line::Cell(cell) => {
-                self.cells.as_slice().len() < 16 && is_short(&cell.values) && first_fits(cell)
-            }
-            Line::Worker => self.parts.as_slice().len() < 8,
-            Line::Command(command) => self.has_room(command),
-            Line::End => true,
+            Line::Cell(cell) => self.has_place(alloc, cell),
+            Line::Worker => Ok(self.parts.as_slice().len() < 8),
+            Line::Command(command) => Ok(self.has_room(command)),
+            Line::End => Ok(true),
         }
     }
 
@@ -264,7 +274,7 @@ impl Draft {
         if !self.structure_ok(is_last, &line) {
             return Ok(Err(Code::Structure));
         }
-        if !self.limits_ok(&line) {
+        if !self.limits_ok(alloc, &line)? {
             return Ok(Err(Code::Limit));
         }
         self.add(alloc, line)?;

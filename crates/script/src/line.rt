@@ -1,7 +1,7 @@
 //! What a line says.
 
 use imm_base::Text24;
-use plain_model::{CellDecl, Command, Kind, PlainOp, Values};
+use plain_model::{CellDecl, Command, Kind, PlainOp, Query, SetTest, Values};
 
 /// The first word of a line.
 #[derive(Clone, Copy, Debug, PartialEq, Eq)]
@@ -14,15 +14,29 @@ pub(crate) enum Head {
     Publish,
     New,
     Let,
+    Rekey,
     Ask,
     Show,
+}
+
+/// The word of an operation that takes values to the end of the line, and no word before them.
+#[derive(Clone, Copy, Debug, PartialEq, Eq)]
+pub(crate) enum RangeWord {
+    AddRange,
+    Union,
+    Intersect,
+    Except,
+    SymExcept,
+    AddPairs,
+    SetPairs,
+    RemoveKeys,
 }
 
 /// The word of a changing operation.
 #[derive(Clone, Copy, Debug, PartialEq, Eq)]
 pub(crate) enum OpWord {
+    Range(RangeWord),
     Add,
-    AddRange,
     Insert,
     InsertRange,
     RemoveAt,
@@ -34,24 +48,39 @@ pub(crate) enum OpWord {
     GetRange,
     Reverse,
     Sort,
+    AddPair,
+    SetPair,
+    RemoveKey,
     Clear,
 }
 
 /// The word of a question.
 #[derive(Clone, Copy, Debug, PartialEq, Eq)]
 pub(crate) enum QueryWord {
+    /// How a set stands to values to the end of the line.
+    Standing(SetTest),
     Count,
     Get,
     IndexOf,
     LastIndexOf,
     Search,
     Contains,
+    Actual,
+    Min,
+    Max,
+    Lookup,
+    KeyOf,
+    HasValue,
+    Keys,
+    Values,
 }
 
 /// The word of a kind.
 #[derive(Clone, Copy, Debug, PartialEq, Eq)]
 pub(crate) enum KindWord {
     List,
+    SSet,
+    SMap,
 }
 
 /// The word of a test.
@@ -60,6 +89,13 @@ pub(crate) enum TestWord {
     Is,
     Below,
     Above,
+}
+
+/// What the words at the end of a line are.
+#[derive(Clone, Copy, Debug, PartialEq, Eq)]
+pub(crate) enum Form {
+    Elements,
+    Pairs,
 }
 
 /// Where values stand.
@@ -82,6 +118,13 @@ pub(crate) struct Source {
 #[derive(Drop)]
 pub(crate) struct SourcedOp {
     pub op: PlainOp,
+    pub from: Option<Text24>,
+}
+
+/// A question, with the name of the local collection that gives its values.
+#[derive(Drop)]
+pub(crate) struct SourcedQuery {
+    pub query: Query,
     pub from: Option<Text24>,
 }
 

@@ -41,7 +41,12 @@ pub(crate) fn local_kind(names: &[LocalName], name: &Text24) -> Option<Kind>
 fn same_kind(a: Kind, b: Kind) -> bool
     ensures { result ≡ same_kind a b }
 {
-    matches!((a, b), (Kind::List, Kind::List))
+    match (a, b) {
+        (Kind::List, Kind::List) => true,
+        (Kind::SSet(_), Kind::SSet(_)) => true,
+        (Kind::SMap(_), Kind::SMap(_)) => true,
+        _ => false,
+    }
 }
 
 /// Whether a name that is bound again keeps its kind.

@@ -3,20 +3,20 @@
 ghost use Rattle.std.specs.Prelude.{◌≡◌, IfOk};
 ghost use Rattle.script.specs.Words.{seen};
 ghost use Rattle.script.specs.declared.line.OpWord.TheVariants as op_words;
-ghost use Rattle.script.specs.Operations.{operation, bare, with_one, with_two, operands, sourced, op};
+ghost use Rattle.script.specs.Operations.{operation, bare, with_one, with_two, operands, form_of, range_of, sourced, op};
 
 use crate::fault::Code;
 use crate::judging::both;
-use crate::line::{OpWord, Place, SourcedOp};
+use crate::line::{Form, OpWord, Place, RangeWord, SourcedOp};
 use crate::table::entry;
 use crate::values::{number, order, source, test_of, test_word, value};
 use imm_base::Memory;
-use plain_model::PlainOp;
+use plain_model::{PlainOp, Values};
 use std::alloc::Global;
 
-const OPERATIONS: [(&[u8], OpWord); 14] = [
+const OPERATIONS: [(&[u8], OpWord); 24] = [
     (b"add", OpWord::Add),
-    (b"addrange", OpWord::AddRange),
+    (b"addrange", OpWord::Range(RangeWord::AddRange)),
     (b"insert", OpWord::Insert),
     (b"insertrange", OpWord::InsertRange),
     (b"removeat", OpWord::RemoveAt),
@@ -28,6 +28,16 @@ const OPERATIONS: [(&[u8], OpWord); 14] = [
     (b"getrange", OpWord::GetRange),
     (b"reverse", OpWord::Reverse),
     (b"sort", OpWord::Sort),
+    (b"union", OpWord::Range(RangeWord::Union)),
+    (b"intersect", OpWord::Range(RangeWord::Intersect)),
+    (b"except", OpWord::Range(RangeWord::Except)),
+    (b"symexcept", OpWord::Range(RangeWord::SymExcept)),
+    (b"addpair", OpWord::AddPair),
+    (b"addpairs", OpWord::Range(RangeWord::AddPairs)),
+    (b"setpair", OpWord::SetPair),
+    (b"setpairs", OpWord::Range(RangeWord::SetPairs)),
+    (b"removekey", OpWord::RemoveKey),
+    (b"removekeys", OpWord::Range(RangeWord::RemoveKeys)),
     (b"clear", OpWord::Clear),
 ];
 
@@ -56,6 +66,7 @@ fn with_one(word: OpWord, v: &[u8]) -> Result<PlainOp, Code>
         OpWord::Add => value(v).map(PlainOp::Add),
         OpWord::RemoveAt => number(v).map(PlainOp::RemoveAt),
         OpWord::Remove => value(v).map(PlainOp::Remove),
+        OpWord::RemoveKey => value(v).map(PlainOp::RemoveKey),
         OpWord::Sort => order(v).map(PlainOp::Sort),
         _ => Err(Code::Word),
     }
@@ -86,6 +97,12 @@ fn with_two(word: OpWord, u: &[u8], v: &[u8]) -> Result<PlainOp, Code>
         OpWord::GetRange => {
             both(number(u), number(v)).map(|(index, count)| PlainOp::GetRange(index, count))
         }
+        OpWord::AddPair => both(value(u), value(v)).map(|(key, value)| PlainOp::AddPair(
+            key, value,
+        )),
+        OpWord::SetPair => both(value(u), value(v)).map(|(key, value)| PlainOp::SetPair(
+            key, value,
+        )),
         _ => Err(Code::Word),
     }
 }
@@ -102,15 +119,42 @@ fn operands(word: OpWord, words: &[&[u8]]) -> Result<PlainOp, Code>
     }
 }
 
-fn add_range(
+/// What the words at the end of the line are.
+fn form_of(range: RangeWord) -> Form
+    ensures { result ≡ form_of range }
+{
+    match range {
+        RangeWord::AddPairs => Form::Pairs,
+        RangeWord::SetPairs => Form::Pairs,
+        _ => Form::Elements,
+    }
+}
+
+fn range_of(range: RangeWord, values: Values) -> PlainOp
+    ensures { result ≡ range_of range values }
+{
+    match range {
+        RangeWord::AddRange => PlainOp::AddRange(values),
+        RangeWord::Union => PlainOp::Union(values),
+        RangeWord::Intersect => PlainOp::Intersect(values),
+        RangeWord::Except => PlainOp::Except(values),
+        RangeWord::SymExcept => PlainOp::SymExcept(values),
+        RangeWord::AddPairs => PlainOp::AddPairs(values),
+        RangeWord::SetPairs => PlainOp::SetPairs(values),
+        RangeWord::RemoveKeys => PlainOp::RemoveKeys(values),
+    }
+}
+
+fn with_range(
     alloc: Global,
     place: Place,
+    range: RangeWord,
     words: &[&[u8]],
 ) -> Result<Result<SourcedOp, Code>, Memory>
-    ensures { IfOk result (λ read. read ≡ sourced place op_words.AddRange (seen words.now)) }
+    ensures { IfOk result (λ read. read ≡ sourced place (op_words.Range range) (seen words.now)) }
 {
-    Ok(source(alloc, place, words)?.map(|source| SourcedOp {
-        op: PlainOp::AddRange(source.values),
+    Ok(source(alloc, place, form_of(range), words)?.map(|source| SourcedOp {
+        op: range_of(range, source.values),
         from: source.from,
     }))
 }
@@ -124,7 +168,7 @@ fn insert_range(
 {
     match words {
         [i, ws @ ..] => {
-            let source = source(alloc, place, ws)?;
+            let source = source(alloc, place, Form::Elements, ws)?;
             Ok(both(number(i), source).map(|(index, source)| SourcedOp {
                 op: PlainOp::InsertRange(index, source.values),
                 from: source.from,
@@ -144,7 +188,7 @@ fn sourced(
     ensures { IfOk result (λ read. read ≡ sourced place word (seen words.now)) }
 {
     match word {
-        OpWord::AddRange => add_range(alloc, place, words),
+        OpWord::Range(range) => with_range(alloc, place, range, words),
         OpWord::InsertRange => insert_range(alloc, place, words),
         _ => Ok(operands(word, words).map(|op| SourcedOp { op, from: None })),
     }

@@ -18,11 +18,12 @@ fn refused(alloc: Global, text: &[u8]) -> Option<(u32, u8)> {
 }
 
 /// Canonical texts of scripts.
-const CANONICAL: [&[u8]; 4] = [
+const CANONICAL: [&[u8]; 5] = [
     b"immrun 1\n",
     b"immrun 1\ncell A list\nworker\nupdate A add 5\nupdate A add -7\nread A x\nshow x\nend\n",
     b"immrun 1\ncell ABCDEF12 list 1 \"a b\" -9223372036854775808\ncell B list seq 0 16384\nworker\nend\nworker\nread B x2345678\npublish ABCDEF12 x2345678\nend\n",
     b"immrun 1\nworker\nnew x list \"\"\nlet y x addrange from x\nlet y y insertrange 0 seq 9223372036854775807 1\nlet y y removeall below \"=\"\nask y search nocase 3\nask y count\nend\n",
+    b"immrun 1\ncell A smap nocase \"a=b\"=1 2=\"\"\ncell B sset reverse seq 0 3\nworker\nread A x\nrekey x x ordinal\nread B y2\nnew y sset nocase from y2\nask y superset from y2\nend\n",
 ];
 
 /// Lines of a part, each an operation or a question of lists, after `new x list`.
@@ -115,6 +116,51 @@ const FOURTH: [(&[u8], u32, u8); 36] = [
     (b"new x list seq 0 16385", 4, 7),
 ];
 
+/// The seventh of eight lines, after a list, a set and a map were made, with the code that it is
+/// refused with.
+const SEVENTH: [(&[u8], Option<u8>); 40] = [
+    (b"let y s add 1", None),
+    (b"let y s remove 1", None),
+    (b"let y s union from l", None),
+    (b"let y s intersect", None),
+    (b"let y s except 1 2", None),
+    (b"let s s symexcept seq 0 2", None),
+    (b"let y m addpair 1 \"=\"", None),
+    (b"let y m addpairs 1=2 \"=\"=3", None),
+    (b"let y m setpair 1 2", None),
+    (b"let y m setpairs from m", None),
+    (b"let y m removekey 1", None),
+    (b"let y m removekeys from l", None),
+    (b"ask s actual 1", None),
+    (b"ask s min", None),
+    (b"ask s subset from l", None),
+    (b"ask s propersuperset", None),
+    (b"ask m lookup 1", None),
+    (b"ask m keyof 1", None),
+    (b"ask m hasvalue 1", None),
+    (b"ask m keys", None),
+    (b"rekey s s nocase", None),
+    (b"new y list from s", None),
+    (b"new y sset one 1", Some(2)),
+    (b"new y sset", Some(2)),
+    (b"rekey y s one", Some(2)),
+    (b"new y smap ordinal 1", Some(3)),
+    (b"new y smap ordinal 1=2=3", Some(3)),
+    (b"new y smap ordinal 1 =2", Some(3)),
+    (b"rekey y z nocase", Some(4)),
+    (b"let y s addrange 1", Some(5)),
+    (b"let y s union from m", Some(5)),
+    (b"let y m setpairs from l", Some(5)),
+    (b"new y smap ordinal from s", Some(5)),
+    (b"let l s clear", Some(5)),
+    (b"publish A s", Some(5)),
+    (b"rekey y l nocase", Some(5)),
+    (b"ask l max", Some(5)),
+    (b"ask m get 0", Some(5)),
+    (b"ask s subset from m", Some(5)),
+    (b"ask s subset seq 0 16385", Some(7)),
+];
+
 /// A text of these pieces.
 fn joined(alloc: Global, front: &[u8], line: &[u8], back: &[u8]) -> Result<Vec<u8>, AllocError> {
     let mut text = Vec::new(alloc);
@@ -186,6 +232,20 @@ fn a_line_is_refused_with_its_least_code(rt: HostRuntime) -> Result<(), Fail> {
 }
 
 #[test]
+fn each_kind_has_its_words(rt: HostRuntime) -> Result<(), Fail> {
+    let front =
+        b"immrun 1\ncell A sset nocase\nworker\nnew l list\nnew s sset ordinal\nnew m smap reverse 1=2\n";
+    for (seventh, code) in SEVENTH {
+        let text = joined(rt.alloc(), front.as_slice(), seventh, b"\nend\n")?;
+        assert_eq!(rt;
+            refused(rt.alloc(), text.as_slice()),
+            code.map(|code| (7, code))
+        );
+    }
+    Ok(())
+}
+
+#[test]
 fn a_text_is_a_script_at_few_cuts(rt: HostRuntime) {
     let text =
         b"immrun 1\ncell A list\nworker\nupdate A add 5\nupdate A add -7\nread A x\nshow x\nend\n".as_slice();
@@ -242,14 +302,55 @@ fn cells_parts_commands_names_and_publishes_have_limits(rt: HostRuntime) -> Resu
     Ok(())
 }
 
+/// First contents of so many elements that are the same and of one other, with the code.
+const CONTENTS: [(&str, &str, u32, Option<u8>); 6] = [
+    ("list", "0", 16_383, None),
+    ("list", "0", 16_384, Some(7)),
+    ("sset ordinal", "0", 16_384, None),
+    ("smap reverse", "0=1", 16_384, None),
+    ("sset ordinal", "0", 0, None),
+    ("smap reverse", "0=1", 0, None),
+];
+
 #[test]
 fn first_contents_have_a_limit(rt: HostRuntime) -> Result<(), Fail> {
-    for (count, fault) in [(16_384, None), (16_385, Some((2, 7)))] {
-        let mut text = String::from_str(rt.alloc(), "immrun 1\ncell A list")?;
+    for (kind, word, count, code) in CONTENTS {
+        let mut text = format!(in rt.alloc(); "immrun 1\ncell A {kind}")?;
         for _ in 0..count {
-            text.push_str(" 0")?;
+            write!(text, " {word}")?;
         }
-        assert_eq!(rt; refused(rt.alloc(), text.as_bytes()), fault);
+        if kind.starts_with("smap") {
+            text.push_str(" 2=3")?;
+        } else {
+            text.push_str(" 2")?;
+        }
+        assert_eq!(rt;
+            refused(rt.alloc(), text.as_bytes()),
+            code.map(|code| (2, code))
+        );
     }
+    Ok(())
+}
+
+/// Pairs of so many keys.
+fn with_keys(alloc: Global, count: u32) -> Result<String, AllocError> {
+    let mut text = String::from_str(alloc, "immrun 1\ncell A smap ordinal")?;
+    for i in 0..count {
+        write!(text, " {i}=0")?;
+    }
+    text.push_str(" 0=1")?;
+    Ok(text)
+}
+
+#[test]
+fn keys_have_a_limit(rt: HostRuntime) -> Result<(), Fail> {
+    assert_eq!(rt;
+        refused(rt.alloc(), with_keys(rt.alloc(), 16_384)?.as_bytes()),
+        None
+    );
+    assert_eq!(rt;
+        refused(rt.alloc(), with_keys(rt.alloc(), 16_385)?.as_bytes()),
+        Some((2, 7))
+    );
     Ok(())
 }

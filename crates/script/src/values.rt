@@ -1,18 +1,20 @@
 //! Words that stand for names and values, and the values at the end of a line.
 
-ghost use Rattle.std.specs.Prelude.{◌≡◌, ◌||◌, IfOk};
+ghost use Rattle.std.specs.Prelude.{◌≡◌, ◌<◌, length, IfSome, false, not, ◌&&◌, ◌||◌, ◌==◌, IfOk};
 ghost use Rattle.std.specs.List.{list_all};
 ghost use Rattle.std.specs.Char.{is_ascii_digit};
 ghost use Rattle.script.specs.Words.{seen};
-ghost use Rattle.script.specs.Values.{text_of, closed, value_of, value, integer, number, is_capital, is_small, is_name, cell_name, local_name, order, test_word, test_of, kind_word, listed, sequence, seq_words, values_of, given, from_name, source, contents_of, contents};
+ghost use Rattle.script.specs.declared.line.KindWord.TheVariants as kind_words;
+ghost use Rattle.script.specs.Values.{text_of, closed, value_of, value, equals_sign, pair, integer, number, is_capital, is_small, is_name, cell_name, local_name, order, test_word, test_of, comparer, kind_word, each, listed, sequence, seq_words, values_of, given, from_name, source, contents_of, contents};
 
 use crate::fault::Code;
 use crate::judging::both;
-use crate::line::{Contents, KindWord, Place, Source, TestWord};
+use crate::line::{Contents, Form, KindWord, Place, Source, TestWord};
 use crate::numerals::{integer_of, number_of};
 use crate::table::entry;
+use crate::words::quoted_after;
 use imm_base::{Memory, Text24, Val, ValOrder, ValTest};
-use plain_model::{Kind, Listed, Values};
+use plain_model::{Comparer, Kind, Listed, Values};
 use std::alloc::Global;
 
 fn text_of(text: &[u8]) -> Option<Text24>
@@ -45,6 +47,37 @@ pub(crate) fn value(word: &[u8]) -> Result<Val, Code>
     ensures { result ≡ value word.now }
 {
     value_of(word).ok_or(Code::Value)
+}
+
+/// The place of the first equals sign that stands in no pair of quotes.
+fn equals_sign(word: &[u8]) -> Option<usize>
+    ensures found { result ≡ equals_sign false word.now }
+    ensures within { IfSome result (λ i. i < length word.now) }
+{
+    let mut is_quoted = false;
+    for (i, byte) in word.iter().enumerate() {
+        if is_sign(is_quoted, *byte) {
+            return Some(i);
+        }
+        is_quoted = quoted_after(is_quoted, *byte);
+    }
+    None
+}
+
+fn is_sign(is_quoted: bool, byte: u8) -> bool
+    ensures { result ≡ (byte == 61 && not is_quoted) }
+{
+    byte == b'=' && !is_quoted
+}
+
+/// A key, an equals sign and a value, without spaces.
+fn pair(word: &[u8]) -> Result<(Val, Val), Code>
+    ensures { result ≡ pair word.now }
+{
+    match equals_sign(word) {
+        Some(i) => both(value(&word[..i]), value(&word[i + 1..])),
+        None => Err(Code::Value),
+    }
 }
 
 fn integer(word: &[u8]) -> Result<i64, Code>
@@ -160,7 +193,24 @@ pub(crate) fn test_of(word: TestWord, value: Val) -> ValTest
     }
 }
 
-const KINDS: [(&[u8], KindWord); 1] = [(b"list", KindWord::List)];
+const COMPARERS: [(&[u8], Comparer); 3] = [
+    (b"ordinal", Comparer::Ordinal),
+    (b"reverse", Comparer::Reverse),
+    (b"nocase", Comparer::NoCase),
+];
+
+#[tactic(auto, unfolding(crate::specs::Values::comparer))]
+pub(crate) fn comparer(word: &[u8]) -> Result<Comparer, Code>
+    ensures { result ≡ comparer word.now }
+{
+    entry(&COMPARERS, word)
+}
+
+const KINDS: [(&[u8], KindWord); 3] = [
+    (b"list", KindWord::List),
+    (b"sset", KindWord::SSet),
+    (b"smap", KindWord::SMap),
+];
 
 fn kind_word(word: &[u8]) -> Result<KindWord, Code>
     ensures { result ≡ kind_word word.now }
@@ -170,17 +220,41 @@ fn kind_word(word: &[u8]) -> Result<KindWord, Code>
 
 /// Values, one after another.
 #[tactic(auto, using(crate::proofs::Listing::listing))]
-fn listed(alloc: Global, words: &[&[u8]]) -> Result<Result<Listed<Val>, Code>, Memory>
-    ensures { IfOk result (λ read. read ≡ listed (seen words.now)) }
+fn values(alloc: Global, words: &[&[u8]]) -> Result<Result<Listed<Val>, Code>, Memory>
+    ensures { IfOk result (λ read. read ≡ each value (seen words.now)) }
 {
-    let mut values = Listed::new(alloc);
+    let mut found = Listed::new(alloc);
     for word in words {
         match value(word) {
-            Ok(found) => values.push(found)?,
+            Ok(value) => found.push(value)?,
             Err(code) => return Ok(Err(code)),
         }
     }
-    Ok(Ok(values))
+    Ok(Ok(found))
+}
+
+/// Pairs, one after another.
+#[tactic(auto, using(crate::proofs::Listing::listing))]
+fn pairs(alloc: Global, words: &[&[u8]]) -> Result<Result<Listed<(Val, Val)>, Code>, Memory>
+    ensures { IfOk result (λ read. read ≡ each pair (seen words.now)) }
+{
+    let mut found = Listed::new(alloc);
+    for word in words {
+        match pair(word) {
+            Ok(pair) => found.push(pair)?,
+            Err(code) => return Ok(Err(code)),
+        }
+    }
+    Ok(Ok(found))
+}
+
+fn listed(alloc: Global, form: Form, words: &[&[u8]]) -> Result<Result<Values, Code>, Memory>
+    ensures { IfOk result (λ read. read ≡ listed form (seen words.now)) }
+{
+    match form {
+        Form::Elements => Ok(values(alloc, words)?.map(Values::List)),
+        Form::Pairs => Ok(pairs(alloc, words)?.map(Values::Pairs)),
+    }
 }
 
 fn sequence(first: i64, count: u32) -> Result<Values, Code>
@@ -205,25 +279,25 @@ fn seq_words(words: &[&[u8]]) -> Result<Values, Code>
     }
 }
 
-fn values_of(alloc: Global, words: &[&[u8]]) -> Result<Result<Values, Code>, Memory>
-    ensures { IfOk result (λ read. read ≡ values_of (seen words.now)) }
+fn values_of(alloc: Global, form: Form, words: &[&[u8]]) -> Result<Result<Values, Code>, Memory>
+    ensures { IfOk result (λ read. read ≡ values_of form (seen words.now)) }
 {
     match words {
-        [] => Ok(Ok(Values::List(Listed::new(alloc)))),
+        [] => listed(alloc, form, words),
         [first, rest @ ..] => {
             if *first == b"seq".as_slice() {
                 Ok(seq_words(rest))
             } else {
-                Ok(listed(alloc, words)?.map(Values::List))
+                listed(alloc, form, words)
             }
         }
     }
 }
 
-fn given(alloc: Global, words: &[&[u8]]) -> Result<Result<Source, Code>, Memory>
-    ensures { IfOk result (λ read. read ≡ given (seen words.now)) }
+fn given(alloc: Global, form: Form, words: &[&[u8]]) -> Result<Result<Source, Code>, Memory>
+    ensures { IfOk result (λ read. read ≡ given form (seen words.now)) }
 {
-    Ok(values_of(alloc, words)?.map(|values| Source { values, from: None }))
+    Ok(values_of(alloc, form, words)?.map(|values| Source { values, from: None }))
 }
 
 /// The local collection that gives the values, where no cell takes them.
@@ -242,22 +316,75 @@ fn from_name(alloc: Global, place: Place, words: &[&[u8]]) -> Result<Source, Cod
 pub(crate) fn source(
     alloc: Global,
     place: Place,
+    form: Form,
     words: &[&[u8]],
 ) -> Result<Result<Source, Code>, Memory>
-    ensures { IfOk result (λ read. read ≡ source place (seen words.now)) }
+    ensures { IfOk result (λ read. read ≡ source place form (seen words.now)) }
 {
     match words {
-        [] => given(alloc, words),
+        [] => given(alloc, form, words),
         [first, rest @ ..] => {
             if *first == b"from".as_slice() {
                 Ok(from_name(alloc, place, rest))
             } else {
-                given(alloc, words)
+                given(alloc, form, words)
             }
         }
     }
 }
 
+fn list_contents(
+    alloc: Global,
+    place: Place,
+    words: &[&[u8]],
+) -> Result<Result<Contents, Code>, Memory>
+    ensures { IfOk result (λ read. read ≡ contents_of place kind_words.List (seen words.now)) }
+{
+    Ok(source(alloc, place, Form::Elements, words)?.map(|source| Contents {
+        kind: Kind::List,
+        source,
+    }))
+}
+
+fn set_contents(
+    alloc: Global,
+    place: Place,
+    words: &[&[u8]],
+) -> Result<Result<Contents, Code>, Memory>
+    ensures { IfOk result (λ read. read ≡ contents_of place kind_words.SSet (seen words.now)) }
+{
+    match words {
+        [o, ws @ ..] => {
+            let source = source(alloc, place, Form::Elements, ws)?;
+            Ok(both(order(o), source).map(|(order, source)| Contents {
+                kind: Kind::SSet(order),
+                source,
+            }))
+        }
+        [] => Ok(Err(Code::Word)),
+    }
+}
+
+fn map_contents(
+    alloc: Global,
+    place: Place,
+    words: &[&[u8]],
+) -> Result<Result<Contents, Code>, Memory>
+    ensures { IfOk result (λ read. read ≡ contents_of place kind_words.SMap (seen words.now)) }
+{
+    match words {
+        [o, ws @ ..] => {
+            let source = source(alloc, place, Form::Pairs, ws)?;
+            Ok(both(order(o), source).map(|(order, source)| Contents {
+                kind: Kind::SMap(order),
+                source,
+            }))
+        }
+        [] => Ok(Err(Code::Word)),
+    }
+}
+
+/// The values of a collection, with what its kind has before them.
 fn contents_of(
     alloc: Global,
     place: Place,
@@ -267,10 +394,9 @@ fn contents_of(
     ensures { IfOk result (λ read. read ≡ contents_of place word (seen words.now)) }
 {
     match word {
-        KindWord::List => Ok(source(alloc, place, words)?.map(|source| Contents {
-            kind: Kind::List,
-            source,
-        })),
+        KindWord::List => list_contents(alloc, place, words),
+        KindWord::SSet => set_contents(alloc, place, words),
+        KindWord::SMap => map_contents(alloc, place, words),
     }
 }
 

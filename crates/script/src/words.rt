@@ -23,7 +23,7 @@ fn is_split(is_quoted: bool, byte: u8) -> bool
     is_blank(byte) && !is_quoted
 }
 
-fn quoted_after(is_quoted: bool, byte: u8) -> bool
+pub(crate) fn quoted_after(is_quoted: bool, byte: u8) -> bool
     ensures { result ≡ quoted_after is_quoted byte }
 {
     if byte == b'"' { !is_quoted } else { is_quoted }
