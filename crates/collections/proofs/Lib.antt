@@ -1,1 +1,4 @@
 pub mod Sequences
+pub mod Shown
+pub mod NewSets
+pub mod Rekeyed

@@ -1,3 +1,4 @@
 pub mod Built
-pub mod Lists
+pub mod Kinds
 pub mod Forms
+pub mod Settled

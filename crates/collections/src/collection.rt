@@ -3,15 +3,19 @@ ghost use Rattle.std.specs.Prelude.{◌≡◌, true, IfOk};
 ghost use Rattle.plain_model.specs.Plain.{count, nothing};
 ghost use Rattle.plain_model.specs.Sources.{is_within};
 ghost use Rattle.collections.specs.Built.{is_built};
-ghost use Rattle.collections.specs.Lists.{list_of};
+ghost use Rattle.collections.specs.Kinds.{list_of, map_of, set_of};
 
-use imm_base::{Memory, Val};
+use imm_base::{Memory, Val, ValOrder};
 use imm_list::ImmList;
 use plain_model::{Kind, Listed, Plain, Values};
+use sorted_maps::SortedMap;
+use sorted_sets::SortedSet;
 use std::alloc::Global;
 use std::marker::Model;
 
 /// A persistent collection of one of the kinds that are built. Two of them may share nodes.
+///
+/// Where a call answers `Memory`, memory ran out. No clause says when that is.
 #[derive(Drop)]
 pub struct Collection {
     pub(crate) form: Form,
@@ -21,6 +25,8 @@ pub struct Collection {
 #[derive(Drop)]
 pub(crate) enum Form {
     List(ImmList<Val>),
+    SSet(SortedSet<Val, ValOrder>),
+    SMap(SortedMap<Val, Val, ValOrder>),
 }
 
 impl Model for Collection {
@@ -40,6 +46,8 @@ impl Collection {
     {
         match kind {
             Kind::List => Collection::of_list(ImmList::new()),
+            Kind::SSet(order) => Collection::of_set(SortedSet::new(order)),
+            Kind::SMap(order) => Collection::of_map(SortedMap::new(order)),
             _ => unreachable!(),
         }
     }
@@ -52,6 +60,22 @@ impl Collection {
         }
     }
 
+    pub(crate) fn of_set(set: SortedSet<Val, ValOrder>) -> Collection
+        ensures { result ≡ set_of set.order set.items }
+    {
+        Collection {
+            form: Form::SSet(set),
+        }
+    }
+
+    pub(crate) fn of_map(map: SortedMap<Val, Val, ValOrder>) -> Collection
+        ensures { result ≡ map_of map.order map.pairs }
+    {
+        Collection {
+            form: Form::SMap(map),
+        }
+    }
+
     /// The kind, which is one that is built.
     pub fn kind(&self) -> Kind
         ensures kind { result ≡ self.now.kind }
@@ -59,6 +83,8 @@ impl Collection {
     {
         match &self.form {
             Form::List(_) => Kind::List,
+            Form::SSet(set) => Kind::SSet(set.order()),
+            Form::SMap(map) => Kind::SMap(map.order()),
         }
     }
 
@@ -68,6 +94,8 @@ impl Collection {
     {
         match &self.form {
             Form::List(list) => list.count(),
+            Form::SSet(set) => set.count(),
+            Form::SMap(map) => map.count(),
         }
     }
 
@@ -77,6 +105,8 @@ impl Collection {
     {
         match &self.form {
             Form::List(list) => Ok(Collection::of_list(list.share()?)),
+            Form::SSet(set) => Ok(Collection::of_set(set.share()?)),
+            Form::SMap(map) => Ok(Collection::of_map(map.share()?)),
         }
     }
 
@@ -87,6 +117,8 @@ impl Collection {
     {
         match &self.form {
             Form::List(list) => Ok(Values::List(Listed::from_vec(list.to_vec(alloc)?))),
+            Form::SSet(set) => Ok(Values::List(Listed::from_vec(set.to_vec(alloc)?))),
+            Form::SMap(map) => Ok(Values::Pairs(Listed::from_vec(map.to_vec(alloc)?))),
         }
     }
 

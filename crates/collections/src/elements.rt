@@ -1,12 +1,36 @@
 //! The values that an argument stands for.
-ghost use Rattle.std.specs.Prelude.{◌≡◌, true, map, pos, ◌+ℤ◌, ◌≤ℤ◌, ◌^◌, IfOk};
+ghost use Rattle.std.specs.Prelude.{◌≡◌, true, map, IfOk};
 ghost use Rattle.imm_base.specs.declared.val.Val.TheVariants.{Int};
-ghost use Rattle.plain_model.specs.Plain.{elements, integers_from};
+ghost use Rattle.plain_model.specs.Plain.{elements, integers_from, pairs};
 ghost use Rattle.plain_model.specs.Sources.{is_within};
 
 use imm_base::{Memory, Val};
 use plain_model::Values;
 use std::alloc::Global;
+
+/// The elements that are meant.
+pub(crate) fn elements(alloc: Global, values: &Values) -> Result<Vec<Val>, Memory>
+    requires { is_within values.now ≡ true }
+    ensures { IfOk result (λ v. v.items ≡ elements values.now) }
+{
+    match values {
+        Values::List(elements) => Ok(Vec::from_slice(alloc, elements.as_slice())?),
+        Values::Pairs(_) => Ok(Vec::new(alloc)),
+        Values::Seq { first, count } => integers_from(alloc, *first, *count),
+    }
+}
+
+/// The pairs that are meant.
+pub(crate) fn pairs(alloc: Global, values: &Values) -> Result<Vec<(Val, Val)>, Memory>
+    requires { is_within values.now ≡ true }
+    ensures { IfOk result (λ v. v.items ≡ pairs values.now) }
+{
+    match values {
+        Values::List(_) => Ok(Vec::new(alloc)),
+        Values::Pairs(pairs) => Ok(Vec::from_slice(alloc, pairs.as_slice())?),
+        Values::Seq { first, count } => pairs_from(alloc, *first, *count),
+    }
+}
 
 // So many integers from the first on.
 #[tactic(auto, using(crate::proofs::Sequences::integers_more))]
@@ -21,14 +45,26 @@ fn integers_from(alloc: Global, first: i64, count: u32) -> Result<Vec<Val>, Memo
     Ok(integers)
 }
 
-/// The elements that are meant.
-pub(crate) fn elements(alloc: Global, values: &Values) -> Result<Vec<Val>, Memory>
-    requires { is_within values.now ≡ true }
-    ensures { IfOk result (λ v. v.items ≡ elements values.now) }
+// So many integers from the first on, each with itself.
+fn pairs_from(alloc: Global, first: i64, count: u32) -> Result<Vec<(Val, Val)>, Memory>
+    requires { is_within (Values.Seq first count) ≡ true }
+    ensures { IfOk result (λ v. v.items ≡ map (λ z. (Int z, Int z)) (integers_from first count)) }
 {
-    match values {
-        Values::List(elements) => Ok(Vec::from_slice(alloc, elements.as_slice())?),
-        Values::Pairs(_) => Ok(Vec::new(alloc)),
-        Values::Seq { first, count } => integers_from(alloc, *first, *count),
-    }
+    let integers = integers_from(alloc, first, count)?;
+    let pairs = with_itself(alloc, integers)?;
+    Ok(pairs)
+}
+
+// Each value with itself.
+fn with_itself(alloc: Global, values: Vec<Val>) -> Result<Vec<(Val, Val)>, Memory>
+    ensures { IfOk result (λ v. v.items ≡ map (λ x. (x, x)) values.items) }
+{
+    let pairs = values
+        .into_iter()
+        .map(|value| {
+            let key = value;
+            (key, value)
+        })
+        .collect(alloc)?;
+    Ok(pairs)
 }

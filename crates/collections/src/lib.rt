@@ -6,10 +6,14 @@ mod collection;
 mod elements;
 mod lists;
 mod making;
+mod maps;
 mod questions;
+mod rekeying;
+mod sets;
 mod sources;
 
 pub use collection::Collection;
+pub use rekeying::with_comparer;
 pub use sources::{op_on, query_on};
 
 #[cfg(test)]

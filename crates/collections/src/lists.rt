@@ -1,10 +1,8 @@
 //! Operations and questions of lists.
-ghost use Rattle.std.specs.Prelude.{◌≡◌, true, slice_get, Option, ℕ};
+ghost use Rattle.std.specs.Prelude.{◌≡◌, true};
 ghost use Rattle.imm_list.specs.Answers.{Answers};
-ghost use Rattle.imm_base.specs.Lists.{is_unsorted, search_place};
-ghost use Rattle.imm_base.specs.Order.{order_cmp};
 ghost use Rattle.plain_model.specs.Plain.{list_op};
-ghost use Rattle.plain_model.specs.Queries.{list_answer, place_or_none, value_or};
+ghost use Rattle.plain_model.specs.Queries.{list_answer, place_or_none};
 ghost use Rattle.plain_model.specs.Sources.{op_values, are_within};
 
 use crate::elements::elements;

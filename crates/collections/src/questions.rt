@@ -6,8 +6,10 @@ ghost use Rattle.plain_model.specs.Sources.{query_values, are_within};
 use crate::Collection;
 use crate::collection::Form;
 use crate::lists::list_answer;
-use imm_base::{Memory, Val};
-use imm_list::ImmList;
+use crate::maps::{first_pairs, map_answer};
+use crate::sets::set_answer;
+use avl_node::Tree;
+use imm_base::{Item, Memory};
 use plain_model::{Answer, Listed, Query, Values};
 use std::alloc::Global;
 
@@ -22,6 +24,8 @@ impl Collection {
     {
         match &self.form {
             Form::List(list) => Ok(list_answer(list, query)),
+            Form::SSet(set) => set_answer(alloc, set, query),
+            Form::SMap(map) => map_answer(alloc, map, query),
         }
     }
 
@@ -29,22 +33,26 @@ impl Collection {
     pub fn shown(&self, alloc: Global) -> Result<Answer, Memory>
         ensures { IfOk result (λ a. a ≡ shown self.now.values) }
     {
-        match &self.form {
-            Form::List(list) => Ok(Answer::Shown {
-                count: list.count(),
-                first: Values::List(Listed::from_vec(first_elements(alloc, list)?)),
-            }),
-        }
+        let first = match &self.form {
+            Form::List(list) => Values::List(Listed::from_vec(first_of(alloc, list.tree())?)),
+            Form::SSet(set) => Values::List(Listed::from_vec(first_of(alloc, set.tree())?)),
+            Form::SMap(map) => Values::Pairs(Listed::from_vec(first_pairs(alloc, map)?)),
+        };
+        Ok(Answer::Shown {
+            count: self.count(),
+            first,
+        })
     }
 }
 
-fn first_elements(alloc: Global, list: &ImmList<Val>) -> Result<Vec<Val>, Memory>
-    ensures { IfOk result (λ v. v.items ≡ take 16 list.now) }
+/// Copies of at most the first 16 elements.
+pub(crate) fn first_of<T: Item>(alloc: Global, tree: &Tree<T>) -> Result<Vec<T>, Memory>
+    ensures { IfOk result (λ v. v.items ≡ take 16 tree.now.items) }
 {
-    let count = list.count();
+    let count = tree.count();
     if count <= SHOWN {
-        list.to_vec(alloc)
+        tree.to_vec(alloc)
     } else {
-        list.tree().front(alloc, SHOWN)?.to_vec(alloc)
+        tree.front(alloc, SHOWN)?.to_vec(alloc)
     }
 }

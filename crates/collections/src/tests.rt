@@ -1,4 +1,5 @@
 ghost use Rattle.std.specs.Prelude.{◌≡◌, true, IfOk};
+ghost use Rattle.collections.specs.Built.{is_built};
 ghost use Rattle.plain_model.specs.Sources.{is_within, are_within, op_values, query_values};
 
 use crate::*;
@@ -17,16 +18,17 @@ fn values_of(alloc: Global, numbers: &[i64]) -> Result<Values, Memory>
     Ok(Values::List(values))
 }
 
-fn sequence(first: i64, count: u32) -> Values
+pub(crate) fn sequence(first: i64, count: u32) -> Values
     ensures { result ≡ Values.Seq first count }
 {
     Values::Seq { first, count }
 }
 
-fn of_values(alloc: Global, values: &Values) -> Result<Collection, Memory>
-    requires { is_within values.now ≡ true }
+pub(crate) fn of_values(alloc: Global, kind: Kind, values: &Values) -> Result<Collection, Memory>
+    requires built { is_built kind ≡ true }
+    requires within { is_within values.now ≡ true }
 {
-    match Collection::made(alloc, Kind::List, values)? {
+    match Collection::made(alloc, kind, values)? {
         Ok(collection) => Ok(collection),
         Err(_) => Err(Memory),
     }
@@ -34,10 +36,10 @@ fn of_values(alloc: Global, values: &Values) -> Result<Collection, Memory>
 
 fn made(alloc: Global, numbers: &[i64]) -> Result<Collection, Memory> {
     let values = values_of(alloc, numbers)?;
-    of_values(alloc, &values)
+    of_values(alloc, Kind::List, &values)
 }
 
-fn are(values: &Values, numbers: &[i64]) -> bool {
+pub(crate) fn are(values: &Values, numbers: &[i64]) -> bool {
     match values {
         Values::List(elements) => elements
             .as_slice()
@@ -48,7 +50,7 @@ fn are(values: &Values, numbers: &[i64]) -> bool {
     }
 }
 
-fn is_of(alloc: Global, collection: &Collection, numbers: &[i64]) -> bool {
+pub(crate) fn is_of(alloc: Global, collection: &Collection, numbers: &[i64]) -> bool {
     match collection.plain(alloc) {
         Ok(plain) => {
             plain.kind == collection.kind()
@@ -59,7 +61,7 @@ fn is_of(alloc: Global, collection: &Collection, numbers: &[i64]) -> bool {
     }
 }
 
-fn gives(alloc: Global, collection: &Collection, op: &PlainOp, wanted: &[i64]) -> bool
+pub(crate) fn gives(alloc: Global, collection: &Collection, op: &PlainOp, wanted: &[i64]) -> bool
     requires { are_within (op_values op.now) ≡ true }
 {
     match collection.changed(alloc, op) {
@@ -68,13 +70,18 @@ fn gives(alloc: Global, collection: &Collection, op: &PlainOp, wanted: &[i64]) -
     }
 }
 
-fn is_same(alloc: Global, collection: &Collection, op: &PlainOp) -> bool
+pub(crate) fn is_same(alloc: Global, collection: &Collection, op: &PlainOp) -> bool
     requires { are_within (op_values op.now) ≡ true }
 {
     matches!(collection.changed(alloc, op), Ok(Ok(Edit::Same)))
 }
 
-fn is_refused(alloc: Global, collection: &Collection, op: &PlainOp, wanted: Refusal) -> bool
+pub(crate) fn is_refused(
+    alloc: Global,
+    collection: &Collection,
+    op: &PlainOp,
+    wanted: Refusal,
+) -> bool
     requires { are_within (op_values op.now) ≡ true }
 {
     match collection.changed(alloc, op) {
@@ -83,7 +90,7 @@ fn is_refused(alloc: Global, collection: &Collection, op: &PlainOp, wanted: Refu
     }
 }
 
-fn int(number: i64) -> Val {
+pub(crate) fn int(number: i64) -> Val {
     Val::Int(number)
 }
 
@@ -161,7 +168,7 @@ fn operations_change_lists(rt: HostRuntime) -> Result<(), Fail> {
     Ok(())
 }
 
-fn is_at(alloc: Global, list: &Collection, query: &Query, wanted: i64) -> bool
+pub(crate) fn is_at(alloc: Global, list: &Collection, query: &Query, wanted: i64) -> bool
     requires { are_within (query_values query.now) ≡ true }
 {
     match list.answer(alloc, query) {
@@ -170,7 +177,7 @@ fn is_at(alloc: Global, list: &Collection, query: &Query, wanted: i64) -> bool
     }
 }
 
-fn is_value(alloc: Global, list: &Collection, query: &Query, wanted: i64) -> bool
+pub(crate) fn is_value(alloc: Global, list: &Collection, query: &Query, wanted: i64) -> bool
     requires { are_within (query_values query.now) ≡ true }
 {
     match list.answer(alloc, query) {
@@ -224,7 +231,7 @@ fn questions_about_lists_are_answered(rt: HostRuntime) -> Result<(), Fail> {
     Ok(())
 }
 
-fn is_shown(alloc: Global, list: &Collection, wanted: u32, numbers: &[i64]) -> bool {
+pub(crate) fn is_shown(alloc: Global, list: &Collection, wanted: u32, numbers: &[i64]) -> bool {
     match list.shown(alloc) {
         Ok(Answer::Shown { count, first }) => count == wanted && are(&first, numbers),
         _ => false,
@@ -234,7 +241,7 @@ fn is_shown(alloc: Global, list: &Collection, wanted: u32, numbers: &[i64]) -> b
 #[test]
 fn at_most_sixteen_elements_are_shown(rt: HostRuntime) -> Result<(), Fail> {
     let alloc = rt.alloc();
-    let long = of_values(alloc, &sequence(-3, 18))?;
+    let long = of_values(alloc, Kind::List, &sequence(-3, 18))?;
     let first = [-3, -2, -1, 0, 1, 2, 3, 4, 5, 6, 7, 8, 9, 10, 11, 12];
     assert!(rt; is_shown(alloc, &long, 18, &first));
     assert!(rt; is_shown(alloc, &Collection::nothing(Kind::List), 0, &[]));
