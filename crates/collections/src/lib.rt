@@ -17,4 +17,6 @@ pub use rekeying::with_comparer;
 pub use sources::{op_on, query_on};
 
 #[cfg(test)]
+mod sorted_tests;
+#[cfg(test)]
 mod tests;
