@@ -1,6 +1,6 @@
 -- Kinds that stay: those of changed values, of names that are bound, and of cells.
-use Rattle.std.proofs.Common.{◌≡◌, ℕ, Bool, true, false, List, [], ◌∷◌, None, Some, Ok, Err, refl, ap, sym, subst, ◌∙◌}
-use Rattle.std.specs.Prelude.{Option, Result, is_some, option_map, if◌then◌else◌, map, bytes_eq, IfOk, unwrap_or}
+use Rattle.std.proofs.Common.{◌≡◌, Bool, true, false, List, [], ◌∷◌, None, Some, Ok, Err, refl, ap, sym, ◌∙◌}
+use Rattle.std.specs.Prelude.{Option, Result, option_map, if◌then◌else◌, map, bytes_eq, IfOk, unwrap_or}
 use Rattle.std.proofs.lemmas.Option.{none-some}
 use Rattle.std.specs.List.{AllByRecursion}
 use Rattle.imm_base.specs.declared.comparers.ValOrder.{ValOrder}
@@ -17,10 +17,9 @@ use Rattle.plain_model.specs.declared.plain.Values.{Values}
 use Rattle.plain_model.specs.declared.plain.Plain.{Plain}
 use Rattle.plain_model.specs.declared.commands.PlainOp.{PlainOp}
 use Rattle.plain_model.specs.declared.commands.PlainCall.TheVariants as plain_calls
-use Rattle.plain_model.specs.declared.history.Refusal.{Refusal}
 use Rattle.plain_model.specs.declared.history.Refusal.TheVariants as refusals
 use Rattle.plain_model.specs.declared.report.CellDecl.{CellDecl}
-use Rattle.plain_model.specs.Plain.{Shape, list_like, stack_like, queue_like, set_like, map_like, shape_of, shape_op, Changed, IfChanged, of_list, of_pairs, list_op, stack_op, queue_op, set_op, map_op, order_of, same_of, elements, pairs, count, filled, plain, nothing, made}
+use Rattle.plain_model.specs.Plain.{Shape, list_like, stack_like, queue_like, set_like, map_like, shape_of, shape_op, Changed, IfChanged, of_list, of_pairs, list_op, stack_op, queue_op, set_op, map_op, order_of, same_of, elements, pairs, count, filled, plain, made}
 use Rattle.plain_model.specs.Cell.{cell, update, after}
 use Rattle.plain_model.specs.History.{Numbered}
 use Rattle.plain_model.specs.Work.{Deed, local_line, on_cell}

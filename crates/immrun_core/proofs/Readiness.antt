@@ -1,5 +1,5 @@
 -- A command that is ready has an effect, and the names stay known.
-use Rattle.std.proofs.Common.{◌≡◌, ℕ, Bool, true, false, ◌&&◌, List, [], ◌∷◌, ◌++◌, None, Some, Ok, Err, refl, ap, sym, subst, ◌∙◌}
+use Rattle.std.proofs.Common.{◌≡◌, ℕ, Bool, true, false, ◌&&◌, List, [], ◌∷◌, None, Some, Ok, Err, refl, ap, sym, subst, ◌∙◌}
 use Rattle.std.specs.Prelude.{Option, Result, is_some, option_map, if◌then◌else◌, map, find, nat_lt, bytes_eq, IfOk}
 use Rattle.imm_base.specs.declared.val.Edit.TheVariants.{Same, New}
 use Rattle.plain_model.specs.declared.plain.Plain.{Plain}

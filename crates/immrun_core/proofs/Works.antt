@@ -9,7 +9,7 @@ use Rattle.plain_model.specs.declared.report.CellDecl.{CellDecl}
 use Rattle.plain_model.specs.declared.report.CellReport.{CellReport}
 use Rattle.plain_model.specs.declared.report.LocalLine.{LocalLine}
 use Rattle.plain_model.specs.Locals.{◌>>=◌, Locals, no_locals}
-use Rattle.plain_model.specs.Work.{Deed, local_line, on_cell, as_local_line, deed_of, deeds_of, work_from, local_lines}
+use Rattle.plain_model.specs.Work.{Deed, as_local_line, deed_of, deeds_of, work_from, local_lines}
 use Rattle.script.specs.Drafts.{with_name}
 use Rattle.script.specs.Ready.{binds, is_ready, AreReady}
 use Rattle.immrun_core.specs.declared.cells.Running.{Running}
