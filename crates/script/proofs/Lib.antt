@@ -1,3 +1,4 @@
+mod Bound
 mod Contents
 mod Cut
 mod Digits

@@ -25,7 +25,7 @@ use Rattle.script.specs.Lines.{script_lines}
 use Rattle.script.specs.Words.{words}
 use Rattle.script.specs.Arguments.{line_of}
 use Rattle.script.specs.Drafts.{cell_kind, local_kind, for_all, with_name, rebinds_ok}
-use Rattle.script.specs.Ready.{is_built, is_declared, is_bound, is_source, rekeyed, binds, is_ready, AreReady, AreDistinct, HasFirst, IsReady}
+use Rattle.script.specs.Ready.{is_built, is_declared, is_bound, is_source, is_of_cell, rekeyed, binds, is_ready, AreReady, AreDistinct, HasFirst, IsReady}
 use Rattle.script.specs.Placing.{has_names, names_ok, form_of_kind, from_fits, fits, kinds_ok, structure_ok, is_short, first_fits, commands_so_far, may_publish, command_is_short, limits_ok, after, placed}
 use Rattle.script.specs.Reading.{is_allowed, is_passed_over, is_header, passed, first_judged, significant, judged, start, script_of, at_line, read_lines}
 use Rattle.script.specs.Grammar.{read_script}
@@ -99,7 +99,7 @@ is_rekeyed (Some k) comparer h g = g
 is_ready-from : (cells : List CellDecl) (names : List LocalName) (c : Command) → has_names cells names c ≡ true → fits cells names c ≡ true → command_within c ≡ true → is_ready cells names c ≡ true
 is_ready-from cells names (commands.Update cell op) has fit within = and_from (is_declared cells cell) (are_within (op_values op)) has within
 is_ready-from cells names (commands.Read cell x) has fit within = has
-is_ready-from cells names (commands.Publish cell x) has fit within = has
+is_ready-from cells names (commands.Publish cell x) has fit within = and_from (is_declared cells cell && is_bound names x) (is_of_cell cells names cell x) has fit
 is_ready-from cells names (commands.New x kind src from) has fit within =
     let built = and_parts (is_built kind) (from_fits names (form_of_kind kind) from) fit in
     and_from (is_built kind && is_source names from) (is_within src) (and_from (is_built kind) (is_source names from) built.0 has) within

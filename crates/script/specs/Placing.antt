@@ -1,8 +1,6 @@
 -- What a line may do after the lines before it, and what it makes of them.
 use Rattle.std.specs.Prelude.{ℕ, ◌+◌, List, [], ◌∷◌, ◌++◌, length, Bool, true, false, not, ◌&&◌, nat_lt, nat_le, ◌==◌, Option, Some, None, is_some, is_none, unwrap_or, Result, Ok, Err, is_ok, if◌then◌else◌}
 use Rattle.imm_base.specs.declared.TheConstants.{LIMIT}
-use Rattle.imm_base.specs.declared.comparers.ValOrder.{ValOrder}
-use Rattle.imm_base.specs.declared.comparers.ValOrder.TheVariants as orders
 use Rattle.plain_model.specs.declared.plain.Kind.{Kind}
 use Rattle.plain_model.specs.declared.plain.Kind.TheVariants as kinds
 use Rattle.plain_model.specs.declared.plain.Values.{Values}
@@ -26,7 +24,7 @@ use Rattle.script.specs.declared.line.Line.TheVariants as lines
 use Rattle.script.specs.declared.lookup.LocalName.{LocalName}
 use Rattle.script.specs.declared.draft.Draft.{Draft}
 use Rattle.script.specs.Drafts.{cell_kind, local_kind, for_all, rebinds_ok, with_name}
-use Rattle.script.specs.Ready.{is_built, is_declared, is_bound, is_source, binds}
+use Rattle.script.specs.Ready.{is_built, is_declared, is_bound, is_source, is_of_cell, binds}
 
 -- ---- names: code 4
 
@@ -139,19 +137,6 @@ answers (kinds.SSet order) query = set_answers query
 answers (kinds.SMap order) query = map_answers query
 answers _ query = false
 
--- the very kind, with its comparer
-abbrev pub is_order : ValOrder → ValOrder → Bool
-is_order orders.Ordinal orders.Ordinal = true
-is_order orders.Reverse orders.Reverse = true
-is_order orders.NoCase orders.NoCase = true
-is_order _ _ = false
-
-abbrev pub is_kind : Kind → Kind → Bool
-is_kind kinds.List kinds.List = true
-is_kind (kinds.SSet order) (kinds.SSet by) = is_order order by
-is_kind (kinds.SMap order) (kinds.SMap by) = is_order order by
-is_kind _ _ = false
-
 -- ---- what a local collection gives, and what is to be given
 
 abbrev pub form_of_kind : Kind → Form
@@ -177,7 +162,7 @@ from_fits names form from = for_all (λ x. for_all (λ kind. is_form form (form_
 -- an operation or a question is one of the kind that it is on, what is published has the kind of the cell, and a new collection is of a kind that is built
 abbrev pub fits : List CellDecl → List LocalName → Command → Bool
 fits cells names (commands.Update cell op) = for_all (λ kind. takes kind op) (cell_kind cells cell)
-fits cells names (commands.Publish cell x) = for_all (λ kind. for_all (is_kind kind) (local_kind names x)) (cell_kind cells cell)
+fits cells names (commands.Publish cell x) = is_of_cell cells names cell x
 fits cells names (commands.New x kind src from) = is_built kind && from_fits names (form_of_kind kind) from
 fits cells names (commands.Let y x op from) = for_all (λ kind. takes kind op) (local_kind names x) && from_fits names (form_of_op op) from
 fits cells names (commands.Rekey y x comparer) = for_all (λ kind. is_some (with_comparer kind comparer)) (local_kind names x)

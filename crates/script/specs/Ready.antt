@@ -14,7 +14,7 @@ use Rattle.plain_model.specs.Plain.{made}
 use Rattle.plain_model.specs.Locals.{with_comparer}
 use Rattle.plain_model.specs.Sources.{is_within, are_within, op_values, query_values}
 use Rattle.script.specs.declared.lookup.LocalName.{LocalName}
-use Rattle.script.specs.Drafts.{cell_kind, local_kind, with_name, rebinds_ok}
+use Rattle.script.specs.Drafts.{cell_kind, local_kind, for_all, is_kind, with_name, rebinds_ok}
 
 -- ---- names
 
@@ -36,6 +36,10 @@ abbrev pub is_source : List LocalName → Option (List ℕ) → Bool
 is_source names None = true
 is_source names (Some x) = is_bound names x
 
+-- what is published has the very kind of the cell
+abbrev pub is_of_cell : List CellDecl → List LocalName → List ℕ → List ℕ → Bool
+is_of_cell cells names cell x = for_all (λ kind. for_all (is_kind kind) (local_kind names x)) (cell_kind cells cell)
+
 -- ---- commands: a row for each that can be run
 
 -- the kind with another comparer, if there is one and it may have it
@@ -55,7 +59,7 @@ binds cells names _ = None
 abbrev pub is_ready : List CellDecl → List LocalName → Command → Bool
 is_ready cells names (commands.Update cell op) = is_declared cells cell && are_within (op_values op)
 is_ready cells names (commands.Read cell x) = is_declared cells cell
-is_ready cells names (commands.Publish cell x) = is_declared cells cell && is_bound names x
+is_ready cells names (commands.Publish cell x) = is_declared cells cell && is_bound names x && is_of_cell cells names cell x
 is_ready cells names (commands.New x kind src from) = is_built kind && is_source names from && is_within src
 is_ready cells names (commands.Let y x op from) = is_bound names x && is_source names from && are_within (op_values op)
 is_ready cells names (commands.Rekey y x comparer) = is_some (rekeyed (local_kind names x) comparer)

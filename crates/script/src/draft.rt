@@ -222,7 +222,7 @@ impl Draft {
         ensures { OnOk result (self.new ≡ after self.old (lines.Command command)) }
     {
         let bound = binds(self.cells.as_slice(), self.names.as_slice(), &command);
-        bind(&mut self.names, bound)?;
+        bind(alloc, &mut self.names, bound)?;
         self.published = published_with(self.published, &command);
         let mut commands = self.take_commands(alloc);
         commands.push(command)?;

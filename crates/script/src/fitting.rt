@@ -1,9 +1,9 @@
 //! What goes with which kind.
 
 ghost use Rattle.std.specs.Prelude.{◌≡◌, is_some};
-ghost use Rattle.script.specs.Drafts.{for_all};
+ghost use Rattle.script.specs.Drafts.{for_all, is_order, is_kind};
 ghost use Rattle.plain_model.specs.Locals.{with_comparer};
-ghost use Rattle.script.specs.Placing.{list_takes, set_takes, map_takes, takes, list_answers, set_answers, map_answers, answers, is_order, is_kind, form_of_kind, form_of_op, is_form, from_fits, fits};
+ghost use Rattle.script.specs.Placing.{list_takes, set_takes, map_takes, takes, list_answers, set_answers, map_answers, answers, form_of_kind, form_of_op, is_form, from_fits, fits};
 
 use crate::line::Form;
 use crate::lookup::{LocalName, cell_kind, local_kind};

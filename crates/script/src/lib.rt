@@ -22,6 +22,7 @@ mod values;
 mod words;
 
 pub use fault::{ParseError, ParseFault};
+pub use lookup::LocalName;
 pub use parsing::parse;
 pub use plain_model::{Part, Script};
 pub use printing::print;

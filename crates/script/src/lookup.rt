@@ -1,14 +1,18 @@
 //! What is declared and bound.
 
-ghost use Rattle.std.specs.Prelude.{◌≡◌, length, OnOk};
-ghost use Rattle.script.specs.Drafts.{cell_kind, local_kind, same_kind, rebinds_ok, with_name};
+ghost use Rattle.std.specs.Prelude.{◌≡◌, [], ◌∷◌, ◌++◌, length, OnOk};
+ghost use Rattle.std.specs.List.{position};
+ghost use Rattle.std.specs.Str.{bytes_eq};
+ghost use Rattle.script.specs.Drafts.{cell_kind, local_kind, same_kind, rebinds_ok, bound_as, with_name};
 
 use imm_base::{Memory, Text24};
 use plain_model::{CellDecl, Kind, Listed};
+use std::alloc::Global;
+use std::mem::replace;
 
 /// A local name, and the kind of the collection that it is bound to.
 #[derive(Clone, Copy)]
-pub(crate) struct LocalName {
+pub struct LocalName {
     pub name: Text24,
     pub kind: Kind,
 }
@@ -63,6 +67,7 @@ pub(crate) fn rebinds_ok(names: &[LocalName], bound: &Option<LocalName>) -> bool
 }
 
 /// How many names are bound after this one.
+#[tactic(auto, using(crate::proofs::Bound::count_bound_as))]
 pub(crate) fn count_with(names: &[LocalName], bound: &Option<LocalName>) -> usize
     ensures { result ≡ length (with_name names.now bound.now) }
 {
@@ -78,15 +83,47 @@ pub(crate) fn count_with(names: &[LocalName], bound: &Option<LocalName>) -> usiz
     }
 }
 
-/// Binds the name, unless it is bound.
-pub(crate) fn bind(names: &mut Listed<LocalName>, bound: Option<LocalName>) -> Result<(), Memory>
+/// The place of the first local collection of this name.
+fn place_of(names: &[LocalName], name: Text24) -> Option<usize>
+    ensures { result ≡ position (λ l. bytes_eq l.name name) names.now }
+{
+    names
+        .iter()
+        .position(|local| local.name.as_bytes() == name.as_bytes())
+}
+
+fn push_name(names: &mut Vec<LocalName>, bound: LocalName) -> Result<(), Memory>
+    ensures { OnOk result (names.new.items ≡ names.old.items ++ bound ∷ []) }
+{
+    names.push(bound)?;
+    Ok(())
+}
+
+/// Puts the name in place of one of the same name, or behind the others.
+#[tactic(auto, using(crate::proofs::Bound::put_in_place))]
+fn put_name(names: &mut Vec<LocalName>, bound: LocalName) -> Result<(), Memory>
+    ensures { OnOk result (names.new.items ≡ bound_as bound names.old.items) }
+{
+    match place_of(names.as_slice(), bound.name) {
+        Some(place) => names[place] = bound,
+        None => push_name(names, bound)?,
+    }
+    Ok(())
+}
+
+/// Binds the name, which may be bound already. Want of memory gives up the names.
+pub(crate) fn bind(
+    alloc: Global,
+    names: &mut Listed<LocalName>,
+    bound: Option<LocalName>,
+) -> Result<(), Memory>
     ensures { OnOk result (names.new ≡ with_name names.old bound) }
 {
     match bound {
         Some(bound) => {
-            if local_kind(names.as_slice(), &bound.name).is_none() {
-                names.push(bound)?;
-            }
+            let mut others = replace(names, Listed::new(alloc)).into_vec();
+            put_name(&mut others, bound)?;
+            *names = Listed::from_vec(others);
             Ok(())
         }
         None => Ok(()),

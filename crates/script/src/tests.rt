@@ -245,6 +245,31 @@ fn each_kind_has_its_words(rt: HostRuntime) -> Result<(), Fail> {
     Ok(())
 }
 
+/// The order of a cell, what follows `new x sset ordinal 1`, and the code that `publish A x` is
+/// refused with then.
+const REBOUND: [(&str, &str, Option<u8>); 6] = [
+    ("nocase", "rekey x x nocase", None),
+    ("ordinal", "rekey x x nocase", Some(5)),
+    ("reverse", "new x sset reverse 1", None),
+    ("ordinal", "new x sset reverse 1", Some(5)),
+    ("ordinal", "let x x add 2", None),
+    ("nocase", "rekey y x nocase", Some(5)),
+];
+
+#[test]
+fn a_name_has_the_order_that_it_was_bound_with_last(rt: HostRuntime) -> Result<(), Fail> {
+    for (order, line, code) in REBOUND {
+        let text = format!(in rt.alloc();
+            "immrun 1\ncell A sset {order}\nworker\nnew x sset ordinal 1\n{line}\npublish A x\nend\n"
+        )?;
+        assert_eq!(rt;
+            refused(rt.alloc(), text.as_bytes()),
+            code.map(|code| (6, code))
+        );
+    }
+    Ok(())
+}
+
 #[test]
 fn a_text_is_a_script_at_few_cuts(rt: HostRuntime) {
     let text =
