@@ -3,6 +3,7 @@ use Rattle.std.proofs.Common.{◌≡◌, ℕ, Bool, true, false, List, [], ◌�
 use Rattle.std.specs.Prelude.{Option, Result, is_some, option_map, if◌then◌else◌, map, nat_lt, bytes_eq}
 use Rattle.std.specs.List.{AllByRecursion}
 use Rattle.std.proofs.lemmas.Option.{none-some}
+use Rattle.imm_base.specs.declared.val.Edit.TheVariants.{Same, New}
 use Rattle.plain_model.specs.declared.plain.Plain.{Plain}
 use Rattle.plain_model.specs.declared.commands.PlainCall.TheVariants as plain_calls
 use Rattle.plain_model.specs.declared.commands.PlainOp.{PlainOp}
@@ -15,19 +16,21 @@ use Rattle.plain_model.specs.declared.history.Line.{Line}
 use Rattle.plain_model.specs.declared.history.Refusal.{Refusal}
 use Rattle.plain_model.specs.declared.history.Refusal.TheVariants.{Publish}
 use Rattle.plain_model.specs.declared.report.Answer.TheVariants.{Refused}
+use Rattle.plain_model.specs.declared.report.Answer.TheVariants as answers
 use Rattle.plain_model.specs.declared.report.CellReport.{CellReport}
 use Rattle.plain_model.specs.Plain.{count, made, plain}
 use Rattle.plain_model.specs.Queries.{answer, shown}
 use Rattle.plain_model.specs.Cell.{after}
 use Rattle.plain_model.specs.History.{Numbered, value_at}
 use Rattle.plain_model.specs.Locals as model
-use Rattle.plain_model.specs.Locals.{◌>>=◌, Name, Locals, Bound, bound, bind, collection, as_collection, contents, collection_at, contents_at, source, Given, given, local}
+use Rattle.plain_model.specs.Locals.{◌>>=◌, with_comparer, has_comparer, rekeyed, Name, Locals, Bound, bound, bind, collection, as_collection, contents, collection_at, contents_at, source, Given, given, local}
 use Rattle.plain_model.specs.Work.{Deed, on_cell, Done, called, done_locally, call_on, deed_of, line_of, cell_named, value_then, publish_limit}
+use Rattle.collections.specs.Settled.{rekeyed_by, new_or_refused}
 use Rattle.immrun_core.specs.declared.cells.Running.{Running}
 use Rattle.immrun_core.specs.declared.names.Named.{Named}
 use Rattle.immrun_core.specs.declared.local.Told.{Told}
 use Rattle.immrun_core.specs.Cells.{called as made_on, called_if, ended, value_in}
-use Rattle.immrun_core.specs.Names.{value_of, Agree, bound_to, values_from, op_from, query_from, new_told, let_told, only_told, told}
+use Rattle.immrun_core.specs.Names.{value_of, Agree, bound_to, values_from, op_from, query_from, new_told, let_told, rekey_told, rekey_of, only_told, told}
 use Rattle.immrun_core.specs.Effects.{Effect, local_effect, read_effect, publish_effect, effect}
 use Rattle.immrun_core.specs.Works.{Stands, cell_later, told_later}
 use Rattle.immrun_core.proofs.Histories.{line_found, value_there}
@@ -145,6 +148,12 @@ new_given x kind s (Err e) = refl
 some_same : {A : Type 0} (x y : A) → Some x ≡ Some y → x ≡ y
 some_same x y e = cc
 
+rekey_given : (y : Name) (kind : Kind) (p : Plain) (s : Locals) (own : Bool) (r : Result Plain Refusal)
+    → (if own then given answers.Same (bind y (collection p) s) else model.rekey_given y kind r s) ≡ given_by s (rekey_told y p kind (if own then Ok Same else new_or_refused r))
+rekey_given y kind p s true r = refl
+rekey_given y kind p s false (Ok q) = refl
+rekey_given y kind p s false (Err e) = refl
+
 -- what is told by one value, or by two, is what is given by them
 by_one : {A : Type 0} (s : Locals) (t : Told) (v : Option A) (f : A → Told) (g : A → Given) → ((a : A) → g a ≡ given_by s (f a))
     → (v >>= λ a. Some (f a)) ≡ Some t → (v >>= λ a. Some (g a)) ≡ Some (given_by s t)
@@ -173,6 +182,21 @@ told_given (commands.Let y x op from) names s t agree e =
     ap (λ v. v >>= λ p. model.op_from s op from >>= λ o. Some (model.let_given y p (plain o p) s)) (at_collection names s x agree)
     ∙ ap (λ w. value_of names x >>= λ p. w >>= λ o. Some (model.let_given y p (plain o p) s)) (same_op names s op from agree)
     ∙ by_two s t (value_of names x) (op_from names op from) (λ p o. let_told y p (plain o p)) (λ p o. model.let_given y p (plain o p) s) (λ p o. refl) e
+told_given (commands.Rekey y x comparer) names s t agree e =
+    ap (λ v. v >>= λ p. with_comparer p.kind comparer >>= λ kind. Some (model.rekey y p comparer kind s)) (at_collection names s x agree)
+    ∙ by (value_of names x) e
+  where
+    by : (v : Option Plain) → (v >>= λ p. rekey_of y p comparer) ≡ Some t
+        → (v >>= λ p. with_comparer p.kind comparer >>= λ kind. Some (model.rekey y p comparer kind s)) ≡ Some (given_by s t)
+    by None e = cc
+    by (Some p) e = of_kind (with_comparer p.kind comparer) e
+      where
+        of_kind : (w : Option Kind) → option_map (λ kind. rekey_told y p kind (rekeyed_by comparer kind p)) w ≡ Some t
+            → (w >>= λ kind. Some (model.rekey y p comparer kind s)) ≡ Some (given_by s t)
+        of_kind None e = cc
+        of_kind (Some kind) e =
+            ap Some (rekey_given y kind p s (has_comparer p.kind comparer) (rekeyed kind p.values))
+            ∙ ap (λ u. Some (given_by s u)) (some_same (rekey_told y p kind (rekeyed_by comparer kind p)) t e)
 told_given (commands.Ask x query from) names s t agree e =
     ap (λ w. bound s x >>= λ b. w >>= λ q. model.ask_given q b s) (same_query names s query from agree)
     ∙ asked names s x (query_from names query from) agree
@@ -263,6 +287,7 @@ effect_done o ds (commands.Publish name x) cells names e s rest all agree there 
     ∙ publish_done o name x p.0 ds rest cells q.0 s all q.1 b)
 effect_done o ds (commands.New x kind src from) cells names e s rest all agree there is = local_done o (commands.New x kind src from) names s e agree is
 effect_done o ds (commands.Let y x op from) cells names e s rest all agree there is = local_done o (commands.Let y x op from) names s e agree is
+effect_done o ds (commands.Rekey y x comparer) cells names e s rest all agree there is = local_done o (commands.Rekey y x comparer) names s e agree is
 effect_done o ds (commands.Ask x query from) cells names e s rest all agree there is = local_done o (commands.Ask x query from) names s e agree is
 effect_done o ds (commands.Show x) cells names e s rest all agree there is = local_done o (commands.Show x) names s e agree is
 effect_done o ds _ cells names e s rest all agree there is = cc

@@ -5,6 +5,7 @@ pub mod Told
 pub mod Histories
 pub mod Stands
 pub mod Bindings
+pub mod Kept
 pub mod Deeds
 pub mod Readiness
 pub mod Works

@@ -14,6 +14,7 @@ use Rattle.immrun_core.specs.declared.cells.Running.{Running}
 use Rattle.immrun_core.specs.Cells.{decls_of, IsOpened, ended}
 use Rattle.immrun_core.specs.Works.{Leads, IsEarlier, Stands, Went}
 use Rattle.immrun_core.proofs.Histories.{leads_fit, leads_last}
+use Rattle.immrun_core.proofs.Kept.{opened_kinds}
 
 -- ---- the beginning
 
@@ -37,6 +38,7 @@ went_nothing decls cells all declared = record {
   deeds = [];
   declared = declared;
   stand = opened_stand cells all;
+  kinds = opened_kinds cells all;
   told = refl;
   ordinal = refl;
   done = λ rest. refl;

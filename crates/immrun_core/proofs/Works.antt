@@ -1,24 +1,26 @@
 -- The commands of a part, and the parts, one after another.
 use Rattle.std.proofs.Common.{◌≡◌, ℕ, zero, suc, ◌+◌, ◌^◌, ◌<◌, ◌≤◌, List, [], ◌∷◌, ◌++◌, length, get_or, None, Some, refl, ap, sym, subst, ◌∙◌, arith, append_assoc}
-use Rattle.std.specs.Prelude.{Option, option_map, map, bytes_eq, if◌then◌else◌, Bool, true, false}
+use Rattle.std.specs.Prelude.{Option, option_map, map, true}
 use Rattle.std.specs.List.{AllByRecursion}
 use Rattle.std.proofs.lemmas.List.{append-nil}
+use Rattle.std.proofs.lemmas.Option.{none-some}
 use Rattle.plain_model.specs.declared.commands.Command.{Command}
 use Rattle.plain_model.specs.declared.report.CellDecl.{CellDecl}
 use Rattle.plain_model.specs.declared.report.CellReport.{CellReport}
 use Rattle.plain_model.specs.declared.report.LocalLine.{LocalLine}
 use Rattle.plain_model.specs.Locals.{◌>>=◌, Locals, no_locals}
-use Rattle.plain_model.specs.Work.{Deed, local_line, on_cell, as_local_line, deed_of, deeds_of, work_from, local_lines}
+use Rattle.plain_model.specs.Work.{Deed, as_local_line, deed_of, deeds_of, work_from, local_lines}
 use Rattle.script.specs.Drafts.{with_name}
 use Rattle.script.specs.Ready.{binds, is_ready, AreReady}
 use Rattle.immrun_core.specs.declared.cells.Running.{Running}
 use Rattle.immrun_core.specs.declared.names.Named.{Named}
-use Rattle.immrun_core.specs.Cells.{called, called_if, cells_after}
+use Rattle.immrun_core.specs.Cells.{HaveKinds}
 use Rattle.immrun_core.specs.Names.{Agree, bound_to}
 use Rattle.immrun_core.specs.Effects.{Effect, effect, Turn, Had, HasSome}
 use Rattle.immrun_core.specs.Works.{Stands, told_later, ordinal_after, Went}
 use Rattle.immrun_core.proofs.Stands.{told_after, all_stand_on, filter_map_on}
 use Rattle.immrun_core.proofs.Deeds.{effect_done, done_by}
+use Rattle.immrun_core.proofs.Kept.{declared_on, kinds_on}
 use Rattle.immrun_core.proofs.Readiness.{LocalName, Known, Acts, acts, agree_on}
 
 -- ---- deeds, and those after them
@@ -62,6 +64,7 @@ pub record WentOn (decls : List CellDecl) (parts : List (List Command)) (part re
   pub deeds : List Deed
   pub declared : map (λ c. c.decl) cells ≡ decls
   pub stand : AllByRecursion (Stands o (before ++ deeds)) cells
+  pub kinds : HaveKinds cells
   pub told : lines ≡ local_lines (before ++ deeds)
   pub ordinal : o + length rest ≡ ordinal_after 1 parts + length part
   pub locals : List LocalName
@@ -81,10 +84,11 @@ went_begin decls parts part o cells lines w ready = record {
   deeds = [];
   declared = w.declared;
   stand = subst (λ ds. AllByRecursion (Stands o ds) cells) (sym (append-nil w.deeds)) w.stand;
+  kinds = w.kinds;
   told = w.told ∙ ap local_lines (sym (append-nil w.deeds));
   ordinal = ap (λ n. n + length part) w.ordinal;
   locals = [];
-  known = λ x e. e;
+  known = λ x kind e. absurd (none-some kind e);
   ready = ready;
   model = no_locals;
   agree = λ x. refl;
@@ -103,6 +107,7 @@ went_end decls parts part o cells names lines w = record {
   deeds = w.before ++ w.deeds;
   declared = w.declared;
   stand = w.stand;
+  kinds = w.kinds;
   told = w.told;
   ordinal = let e = w.ordinal in zero_on o (ordinal_after 1 parts + length part) e ∙ sym (after_on 1 parts part);
   done = λ later. work_on (told_later later cells) 1 parts part w.before w.deeds (w.done later) (w.on later ∙ ap Some (append-nil w.deeds));
@@ -119,17 +124,7 @@ went_end decls parts part o cells names lines w = record {
 pub went_acts : (decls : List CellDecl) (parts : List (List Command)) (part : List Command) (c : Command) (rest : List Command) (o : ℕ) (cells : List Running) (names : List Named) (lines : List LocalLine)
     → (w : WentOn decls parts part (c ∷ rest) o cells names lines) → Acts o c w.locals cells names
 went_acts decls parts part c rest o cells names lines w =
-    acts o c w.locals cells names w.known (subst (λ ds. is_ready ds w.locals c ≡ true) (sym w.declared) w.ready.0)
-
--- the declarations stay
-declared_on : (d : Deed) (cells : List Running) → map (λ c. c.decl) (cells_after d cells) ≡ map (λ c. c.decl) cells
-declared_on (local_line l) cells = refl
-declared_on (on_cell name n) [] = refl
-declared_on (on_cell name n) (c ∷ cells) = ap (λ d. d ∷ map (λ c. c.decl) (map (called_if name n) cells)) (same (bytes_eq name c.decl.name)) ∙ ap (λ ds. c.decl ∷ ds) (declared_on (on_cell name n) cells)
-  where
-    same : (b : Bool) → (if b then called n c else c).decl ≡ c.decl
-    same true = refl
-    same false = refl
+    acts o c w.locals cells names w.known w.kinds (subst (λ ds. is_ready ds w.locals c ≡ true) (sym w.declared) w.ready.0)
 
 lines_on : (ds : List Deed) (d : Deed) → local_lines (ds ++ d ∷ []) ≡ local_lines ds ++ local_lines (d ∷ [])
 lines_on ds d = filter_map_on as_local_line ds d
@@ -151,6 +146,7 @@ went_on decls parts part c rest o t w has =
       declared = decls_on ∙ w.declared;
       stand = subst (λ ds. AllByRecursion (Stands (o + 1) ds) t.cells_after) (append_assoc w.before w.deeds (e.deed ∷ []))
           (subst (AllByRecursion (Stands (o + 1) ((w.before ++ w.deeds) ++ e.deed ∷ []))) (sym had.cells) (all_stand_on o (w.before ++ w.deeds) e.deed t.cells a.ordinal w.stand));
+      kinds = subst HaveKinds (sym had.cells) (kinds_on e.deed t.cells w.kinds a.suits);
       told = had.lines ∙ ap (λ ls. ls ++ local_lines (e.deed ∷ [])) w.told ∙ sym (lines_on (w.before ++ w.deeds) e.deed) ∙ ap local_lines (append_assoc w.before w.deeds (e.deed ∷ []));
       ordinal = let f = w.ordinal in omega arith;
       locals = with_name w.locals (binds decls w.locals c);

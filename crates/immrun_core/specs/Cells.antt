@@ -1,5 +1,6 @@
 -- Cells during a run of one worker, as the contracts of private functions name them.
 use Rattle.std.specs.Prelude.{◌≡◌, ℕ, ◌+◌, List, [], ◌∷◌, ◌++◌, map, Bool, true, is_some, unwrap_or, if◌then◌else◌, Option, Some, None, Ok, bytes_eq}
+use Rattle.plain_model.specs.declared.plain.Kind.{Kind}
 use Rattle.plain_model.specs.declared.plain.Plain.{Plain}
 use Rattle.plain_model.specs.declared.commands.PlainCall.{PlainCall}
 use Rattle.plain_model.specs.declared.commands.PlainCall.TheVariants as plain_calls
@@ -13,6 +14,7 @@ use Rattle.plain_model.specs.Sources.{are_within, op_values}
 use Rattle.plain_model.specs.History.{Numbered}
 use Rattle.plain_model.specs.Locals.{Name}
 use Rattle.plain_model.specs.Work.{Deed, local_line, on_cell}
+use Rattle.script.specs.Drafts.{cell_kind}
 use Rattle.immrun_core.specs.declared.cells.Running.{Running}
 use Rattle.immrun_core.specs.declared.cells.Outcome.{Outcome}
 use Rattle.immrun_core.specs.declared.cells.Call.{Call}
@@ -95,6 +97,16 @@ pub record IsOpened (c : Running) : Type 0 where
 
 abbrev pub decls_of : List Running → List CellDecl
 decls_of cells = map (λ c. c.decl) cells
+
+-- a value that is there, of this kind
+pub record IsOfKind (wanted : Kind) (v : Option Plain) : Type 0 where
+  pub value : Plain
+  pub is : v ≡ Some value
+  pub kind : value.kind ≡ wanted
+
+-- each cell that is declared has a value of its kind
+abbrev pub HaveKinds : List Running → Type 0
+HaveKinds cells = (name : Name) (kind : Kind) → cell_kind (decls_of cells) name ≡ Some kind → IsOfKind kind (value_in cells name)
 
 -- what is told of it after the last call
 abbrev pub ended : Running → CellReport

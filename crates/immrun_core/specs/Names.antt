@@ -1,6 +1,8 @@
 -- The names of a part, and what a local command tells by them, as the contracts of private functions name them.
 use Rattle.std.specs.Prelude.{◌≡◌, ℕ, suc, List, [], ◌∷◌, Option, Some, None, option_map, Result, Ok, Err, if◌then◌else◌, bytes_eq, Bool, true, ◌&&◌}
+use Rattle.imm_base.specs.declared.val.Edit.TheVariants.{Same, New}
 use Rattle.plain_model.specs.declared.plain.Kind.{Kind}
+use Rattle.plain_model.specs.declared.plain.Comparer.{Comparer}
 use Rattle.plain_model.specs.declared.plain.Values.{Values}
 use Rattle.plain_model.specs.declared.plain.Plain.{Plain}
 use Rattle.plain_model.specs.declared.commands.PlainOp.{PlainOp}
@@ -13,8 +15,9 @@ use Rattle.plain_model.specs.declared.report.Answer.TheVariants as answers
 use Rattle.plain_model.specs.Plain.{Changed, plain, nothing, made}
 use Rattle.plain_model.specs.Queries.{answer, shown}
 use Rattle.plain_model.specs.Sources.{is_within, are_within, op_values, query_values}
-use Rattle.plain_model.specs.Locals.{◌>>=◌, Name, Locals, bound, bind, collection, counted, change_answer, edited, op_on, query_on}
+use Rattle.plain_model.specs.Locals.{◌>>=◌, Name, Locals, bound, bind, collection, counted, change_answer, edited, with_comparer, op_on, query_on}
 use Rattle.collections.specs.Built.{is_built}
+use Rattle.collections.specs.Settled.{rekeyed_by}
 use Rattle.immrun_core.specs.declared.names.Named.{Named}
 use Rattle.immrun_core.specs.declared.local.Told.{Told}
 
@@ -67,6 +70,16 @@ new_told x kind (Err r) = record { answer = answers.Refused r; binds = Some (rec
 abbrev pub let_told : Name → Plain → Changed → Told
 let_told y p c = record { answer = change_answer c; binds = Some (record { name = y; value = edited p c }) }
 
+-- the collection under another comparer: of this kind where it is another one, or where it is refused and the name is bound to the empty collection
+abbrev pub rekey_told : Name → Plain → Kind → Changed → Told
+rekey_told y p kind (Ok Same) = record { answer = answers.Same; binds = Some (record { name = y; value = p }) }
+rekey_told y p kind (Ok (New q)) = record { answer = answers.New; binds = Some (record { name = y; value = q }) }
+rekey_told y p kind (Err r) = record { answer = answers.Refused r; binds = Some (record { name = y; value = nothing kind }) }
+
+-- nothing where its kind may not have the comparer
+abbrev pub rekey_of : Name → Plain → Comparer → Option Told
+rekey_of y p comparer = option_map (λ kind. rekey_told y p kind (rekeyed_by comparer kind p)) (with_comparer p.kind comparer)
+
 abbrev pub only_told : Answer → Told
 only_told a = record { answer = a; binds = None }
 
@@ -74,6 +87,7 @@ only_told a = record { answer = a; binds = None }
 abbrev pub told : Command → List Named → Option Told
 told (commands.New x kind src from) names = values_from names src from >>= λ vs. Some (new_told x kind (made kind vs))
 told (commands.Let y x op from) names = value_of names x >>= λ p. op_from names op from >>= λ o. Some (let_told y p (plain o p))
+told (commands.Rekey y x comparer) names = value_of names x >>= λ p. rekey_of y p comparer
 told (commands.Ask x query from) names = value_of names x >>= λ p. query_from names query from >>= λ q. Some (only_told (answer q p))
 told (commands.Show x) names = value_of names x >>= λ p. Some (only_told (shown p.values))
 told _ names = None

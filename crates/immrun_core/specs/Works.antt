@@ -12,7 +12,7 @@ use Rattle.plain_model.specs.Cell.{after}
 use Rattle.plain_model.specs.History.{Fits, InOrder, calls_of}
 use Rattle.plain_model.specs.Work.{Deed, local_line, on_cell, calls_at, local_lines, work_from}
 use Rattle.immrun_core.specs.declared.cells.Running.{Running}
-use Rattle.immrun_core.specs.Cells.{called_if, decls_of, ended}
+use Rattle.immrun_core.specs.Cells.{called_if, decls_of, ended, HaveKinds}
 
 -- ---- a history
 
@@ -68,6 +68,7 @@ pub record Went (decls : List CellDecl) (parts : List (List Command)) (o : ℕ) 
   pub deeds : List Deed
   pub declared : decls_of cells ≡ decls
   pub stand : AllByRecursion (Stands o deeds) cells
+  pub kinds : HaveKinds cells
   pub told : lines ≡ local_lines deeds
   pub ordinal : o ≡ ordinal_after 1 parts
   pub done : (rest : List Deed) → work_from (told_later rest cells) 1 1 parts ≡ Some deeds

@@ -3,12 +3,12 @@ ghost use Rattle.std.specs.Prelude.{◌≡◌, true, IfOk, IfSome};
 ghost use Rattle.plain_model.specs.Plain.{made, Changed};
 ghost use Rattle.plain_model.specs.Sources.{is_within, are_within, op_values, query_values};
 ghost use Rattle.collections.specs.Built.{is_built};
-ghost use Rattle.immrun_core.specs.Names.{values_from, op_from, query_from, new_told, let_told, told, is_allowed};
+ghost use Rattle.immrun_core.specs.Names.{values_from, op_from, query_from, new_told, let_told, rekey_told, rekey_of, told, is_allowed};
 
 use crate::names::{Named, value_of};
-use collections::{Collection, op_on, query_on};
+use collections::{Collection, op_on, query_on, with_comparer};
 use imm_base::{Dup, Edit, Memory, Text24};
-use plain_model::{Answer, Command, Kind, PlainOp, Query, Refusal, Values};
+use plain_model::{Answer, Command, Comparer, Kind, PlainOp, Query, Refusal, Values};
 use std::alloc::Global;
 
 /// What a command answers, and the name that it binds.
@@ -129,6 +129,56 @@ fn let_told(
     }
 }
 
+// What a collection under another comparer tells, of the kind that it has then.
+fn rekey_told(
+    name: Text24,
+    old: &Collection,
+    kind: Kind,
+    changed: Result<Edit<Collection>, Refusal>,
+) -> Result<Told, Memory>
+    requires { is_built kind ≡ true }
+    ensures { IfOk result (λ t. t ≡ rekey_told name old.now kind changed) }
+{
+    match changed {
+        Ok(Edit::New(value)) => Ok(Told {
+            answer: Answer::New,
+            binds: Some(Named { name, value }),
+        }),
+        Ok(Edit::Same) => Ok(Told {
+            answer: Answer::Same,
+            binds: Some(Named {
+                name,
+                value: old.share()?,
+            }),
+        }),
+        Err(refusal) => Ok(Told {
+            answer: Answer::Refused(refusal),
+            binds: Some(Named {
+                name,
+                value: Collection::nothing(kind),
+            }),
+        }),
+    }
+}
+
+// What a collection tells under another comparer, if its kind may have it.
+fn rekey_of(
+    alloc: Global,
+    name: Text24,
+    old: &Collection,
+    comparer: Comparer,
+) -> Result<Option<Told>, Memory>
+    ensures { IfOk result (λ t. t ≡ rekey_of name old.now comparer) }
+{
+    match with_comparer(old.kind(), comparer) {
+        Some(kind) => {
+            let changed = old.rekeyed(alloc, comparer)?;
+            Ok(Some(rekey_told(name, old, kind, changed)?))
+        }
+        None => Ok(None),
+    }
+}
+
 // `new`
 fn made(
     alloc: Global,
@@ -166,6 +216,22 @@ fn changed(
             Ok(Some(let_told(*name, old, changed)?))
         }
         _ => Ok(None),
+    }
+}
+
+// `rekey`
+fn rekeyed(
+    alloc: Global,
+    names: &[Named],
+    name: &Text24,
+    old: &Text24,
+    comparer: Comparer,
+) -> Result<Option<Told>, Memory>
+    ensures { IfOk result (λ t. t ≡ told (Command.Rekey name.now old.now comparer) names.now) }
+{
+    match value_of(names, old) {
+        Some(old) => rekey_of(alloc, *name, old, comparer),
+        None => Ok(None),
     }
 }
 
@@ -218,6 +284,7 @@ pub(crate) fn tell(
     match command {
         Command::New(name, kind, values, from) => made(alloc, names, name, *kind, values, from),
         Command::Let(name, old, op, from) => changed(alloc, names, name, old, op, from),
+        Command::Rekey(name, old, comparer) => rekeyed(alloc, names, name, old, *comparer),
         Command::Ask(name, query, from) => asked(alloc, names, name, query, from),
         Command::Show(name) => shown(alloc, names, name),
         _ => Ok(None),

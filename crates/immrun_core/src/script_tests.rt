@@ -52,6 +52,18 @@ const CELLS: &[u8] =
 const CELLS_REPORT: &[u8] =
     b"immrun report 1\nworkers 1\ncell A list\nfirst 1: 1\n0 1.1 . read -> 1\n1 1.2 + update add 2 -> true\nfinal 2: 1 2\ncell B list\nfirst 0:\n1 1.3 + publish 1: 1 -> true\n1 1.4 . read -> 1\nfinal 1: 1\nworker 1\n1.5 let x x addrange from x -> new\n1.6 show x -> 2: 1 1\nend\n";
 
+const SORTED: &[u8] =
+    b"immrun 1\ncell D smap ordinal\nworker\nnew s sset reverse 1 3 5\nshow s\nask s indexof 4\nask s min\nlet t s symexcept 3 4 4\nshow t\nlet u s union 1 5\nask s subset 1 3 5 5\nask s propersubset 1 3 5\nend\n";
+
+const SORTED_REPORT: &[u8] =
+    b"immrun report 1\nworkers 1\ncell D smap ordinal\nfirst 0:\nfinal 0:\nworker 1\n1.1 new s sset reverse 1 3 5 -> 3\n1.2 show s -> 3: 5 3 1\n1.3 ask s indexof 4 -> -2\n1.4 ask s min -> 5\n1.5 let t s symexcept 3 4 4 -> new\n1.6 show t -> 3: 5 4 1\n1.7 let u s union 1 5 -> same\n1.8 ask s subset 1 3 5 5 -> true\n1.9 ask s propersubset 1 3 5 -> false\nend\n";
+
+const REKEYED: &[u8] =
+    b"immrun 1\ncell D smap ordinal\nworker\nupdate D addpair \"a\" 1\nupdate D addpair \"a\" 1\nupdate D addpair \"a\" 2\nread D d\nrekey r d reverse\nshow r\nnew n smap ordinal \"a\"=1 \"A\"=2\nshow n\nrekey e n nocase\nshow e\nrekey o d ordinal\nend\n";
+
+const REKEYED_REPORT: &[u8] =
+    b"immrun report 1\nworkers 1\ncell D smap ordinal\nfirst 0:\n1 1.1 + update addpair \"a\" 1 -> true\n1 1.2 . update addpair \"a\" 1 -> false\n1 1.3 . update addpair \"a\" 2 -> refused keyexists 1\n1 1.4 . read -> 1\nfinal 1: \"a\"=1\nworker 1\n1.5 rekey r d reverse -> new\n1.6 show r -> 1: \"a\"=1\n1.7 new n smap ordinal \"a\"=1 \"A\"=2 -> 2\n1.8 show n -> 2: \"A\"=2 \"a\"=1\n1.9 rekey e n nocase -> refused keyexists 2\n1.10 show e -> 0:\n1.11 rekey o d ordinal -> same\nend\n";
+
 // Whether `run 1` of the script writes the report.
 fn reports<R: Threads + Wait + Sync>(
     rt: &R,
@@ -87,6 +99,8 @@ fn each_script_has_its_report(rt: HostRuntime) -> Result<(), Fail> {
         (PUBLISHED, PUBLISHED_REPORT),
         (PARTS, PARTS_REPORT),
         (CELLS, CELLS_REPORT),
+        (SORTED, SORTED_REPORT),
+        (REKEYED, REKEYED_REPORT),
     ];
     for (script, report) in &rows {
         assert!(rt; reports(&rt, rt.alloc(), script, report)?);
