@@ -4,7 +4,7 @@ use Rattle.std.specs.List.{AllByRecursion}
 use Rattle.std.specs.Ordering.{is_lt, is_eq}
 use Rattle.std.specs.declared.cmp.Ordering.{Ordering}
 use Rattle.std.specs.declared.cmp.Ordering.TheVariants.{Less, Equal, Greater}
-use Rattle.avl_node.specs.Sides.{place_at, is_equal_at, IsSplit, SidesAscend}
+use Rattle.avl_node.specs.Sides.{lower_bound, is_equal_at, IsSplit, SidesAscend}
 
 module _ {T : Type 0} where
   all_middle : (P : T → Type 0) (l : List T) (x : T) (m : List T) → AllByRecursion P (l ++ x ∷ m) → P x
@@ -24,21 +24,21 @@ module _ {T : Type 0} (side : T → Ordering) where
   split_back [] x m up = up.2
   split_back (y ∷ l) x m up = split_back l x m up.2
 
-  place_cons_less : (y : T) (ys : List T) → side y ≡ Less → place_at side (y ∷ ys) ≡ suc (place_at side ys)
+  pub place_cons_less : (y : T) (ys : List T) → side y ≡ Less → lower_bound side (y ∷ ys) ≡ suc (lower_bound side ys)
   place_cons_less y ys less = rw less (omega arith)
 
-  place_cons_level : (y : T) (ys : List T) → is_lt (side y) ≡ false → place_at side (y ∷ ys) ≡ zero
+  pub place_cons_level : (y : T) (ys : List T) → is_lt (side y) ≡ false → lower_bound side (y ∷ ys) ≡ zero
   place_cons_level y ys level = rw level refl
 
-  place_right : (l : List T) (x : T) (m : List T) → IsSplit side (l ++ x ∷ m) → side x ≡ Less → place_at side (l ++ x ∷ m) ≡ length l + 1 + place_at side m
+  place_right : (l : List T) (x : T) (m : List T) → IsSplit side (l ++ x ∷ m) → side x ≡ Less → lower_bound side (l ++ x ∷ m) ≡ length l + 1 + lower_bound side m
   place_right [] x m up less = place_cons_less x m less ∙ omega arith
   place_right (y ∷ l) x m up less =
-      elim (is_lt (side y)) as (λ t. is_lt (side y) ≡ t → cond t (1 + place_at side (l ++ x ∷ m)) 0 ≡ suc (length l) + 1 + place_at side m) [
+      elim (is_lt (side y)) as (λ t. is_lt (side y) ≡ t → cond t (1 + lower_bound side (l ++ x ∷ m)) 0 ≡ suc (length l) + 1 + lower_bound side m) [
         | true ↦ λ e. omega (arith, place_right l x m up.2 less)
         | false ↦ λ e. absurd (let not_less : is_lt (side x) ≡ false = all_middle _ l x m (up.0 e) in let lower : is_lt (side x) ≡ true = ap is_lt less in cc)
       ] refl
 
-  place_left : (l : List T) (x : T) (m : List T) → is_lt (side x) ≡ false → place_at side (l ++ x ∷ m) ≡ place_at side l
+  place_left : (l : List T) (x : T) (m : List T) → is_lt (side x) ≡ false → lower_bound side (l ++ x ∷ m) ≡ lower_bound side l
   place_left [] x m level = place_cons_level x m level
   place_left (y ∷ l) x m level =
       ap (λ n. cond (is_lt (side y)) (1 + n) 0) (place_left l x m level)
@@ -48,22 +48,22 @@ module _ {T : Type 0} (side : T → Ordering) where
   level_right (y ∷ l) x m i =
       ap (λ k. is_equal_at side (y ∷ (l ++ x ∷ m)) k) (let e : suc (length l) + 1 + i ≡ suc (length l + 1 + i) = omega arith in e) ∙ level_right l x m i
 
-  level_cons : (r : Ordering) (y : T) (l : List T) (x : T) (m : List T) → side y ≡ r → IsSplit side (y ∷ (l ++ x ∷ m)) → side x ≡ Equal → is_equal_at side (l ++ x ∷ m) (place_at side l) ≡ true → is_equal_at side (y ∷ (l ++ x ∷ m)) (place_at side (y ∷ l)) ≡ true
+  level_cons : (r : Ordering) (y : T) (l : List T) (x : T) (m : List T) → side y ≡ r → IsSplit side (y ∷ (l ++ x ∷ m)) → side x ≡ Equal → is_equal_at side (l ++ x ∷ m) (lower_bound side l) ≡ true → is_equal_at side (y ∷ (l ++ x ∷ m)) (lower_bound side (y ∷ l)) ≡ true
   level_cons Less y l x m is up same rest =
       ap (λ k. is_equal_at side (y ∷ (l ++ x ∷ m)) k) (place_cons_less y l is) ∙ rest
   level_cons Equal y l x m is up same rest =
       ap (λ k. is_equal_at side (y ∷ (l ++ x ∷ m)) k) (place_cons_level y l (ap is_lt is)) ∙ ap is_eq is
   level_cons Greater y l x m is up same rest = absurd (let more : side x ≡ Greater = all_middle _ l x m (up.1 is) in cc)
 
-  level_middle : (l : List T) (x : T) (m : List T) → IsSplit side (l ++ x ∷ m) → side x ≡ Equal → is_equal_at side (l ++ x ∷ m) (place_at side l) ≡ true
+  level_middle : (l : List T) (x : T) (m : List T) → IsSplit side (l ++ x ∷ m) → side x ≡ Equal → is_equal_at side (l ++ x ∷ m) (lower_bound side l) ≡ true
   level_middle [] x m up same = ap is_eq same
   level_middle (y ∷ l) x m up same = level_cons (side y) y l x m refl up same (level_middle l x m up.2 same)
 
-  level_left : (l : List T) (x : T) (m : List T) → side x ≡ Greater → is_equal_at side (l ++ x ∷ m) (place_at side l) ≡ is_equal_at side l (place_at side l)
+  level_left : (l : List T) (x : T) (m : List T) → side x ≡ Greater → is_equal_at side (l ++ x ∷ m) (lower_bound side l) ≡ is_equal_at side l (lower_bound side l)
   level_left [] x m more = ap is_eq more
   level_left (y ∷ l) x m more =
-      elim (is_lt (side y)) as (λ t. is_lt (side y) ≡ t → is_equal_at side (y ∷ (l ++ x ∷ m)) (cond t (1 + place_at side l) 0) ≡ is_equal_at side (y ∷ l) (cond t (1 + place_at side l) 0)) [
-        | true ↦ λ e. (let up : 1 + place_at side l ≡ suc (place_at side l) = omega arith in subst (λ k. is_equal_at side (y ∷ (l ++ x ∷ m)) k ≡ is_equal_at side (y ∷ l) k) (sym up) (level_left l x m more))
+      elim (is_lt (side y)) as (λ t. is_lt (side y) ≡ t → is_equal_at side (y ∷ (l ++ x ∷ m)) (cond t (1 + lower_bound side l) 0) ≡ is_equal_at side (y ∷ l) (cond t (1 + lower_bound side l) 0)) [
+        | true ↦ λ e. (let up : 1 + lower_bound side l ≡ suc (lower_bound side l) = omega arith in subst (λ k. is_equal_at side (y ∷ (l ++ x ∷ m)) k ≡ is_equal_at side (y ∷ l) k) (sym up) (level_left l x m more))
         | false ↦ λ e. refl
       ] refl
 
@@ -78,25 +78,25 @@ module _ {T : Type 0} (side : T → Ordering) (items l : List T) (x : T) (m : Li
   back : SidesAscend side items → SidesAscend side m
   back up = record { split = split_back side l x m (whole up) }
 
-  pub less_place : (before place : ℕ) → before ≡ length l → side x ≡ Less → (SidesAscend side m → place ≡ place_at side m) → SidesAscend side items → before + 1 + place ≡ place_at side items
+  pub less_place : (before place : ℕ) → before ≡ length l → side x ≡ Less → (SidesAscend side m → place ≡ lower_bound side m) → SidesAscend side items → before + 1 + place ≡ lower_bound side items
   less_place before place b less child up =
-      let below : place ≡ place_at side m = child (back up) in
-      let there : place_at side items ≡ length l + 1 + place_at side m = ap (λ (t : List T). place_at side t) is ∙ place_right side l x m (whole up) less in
+      let below : place ≡ lower_bound side m = child (back up) in
+      let there : lower_bound side items ≡ length l + 1 + lower_bound side m = ap (λ (t : List T). lower_bound side t) is ∙ place_right side l x m (whole up) less in
       omega arith
 
   pub less_found : (before place : ℕ) (found : Bool) → before ≡ length l → (SidesAscend side m → found ≡ is_equal_at side m place) → SidesAscend side items → found ≡ is_equal_at side items (before + 1 + place)
   less_found before place found b child up =
       child (back up) ∙ sym (level_right side l x m place) ∙ ap (λ (i : ℕ). is_equal_at side (l ++ x ∷ m) (i + 1 + place)) (sym b) ∙ ap (λ (t : List T). is_equal_at side t (before + 1 + place)) (sym is)
 
-  pub left_place : (place : ℕ) → is_lt (side x) ≡ false → (SidesAscend side l → place ≡ place_at side l) → SidesAscend side items → place ≡ place_at side items
+  pub left_place : (place : ℕ) → is_lt (side x) ≡ false → (SidesAscend side l → place ≡ lower_bound side l) → SidesAscend side items → place ≡ lower_bound side items
   left_place place level child up =
-      child (front up) ∙ sym (place_left side l x m level) ∙ ap (λ (t : List T). place_at side t) (sym is)
+      child (front up) ∙ sym (place_left side l x m level) ∙ ap (λ (t : List T). lower_bound side t) (sym is)
 
-  pub equal_found : (place : ℕ) → side x ≡ Equal → (SidesAscend side l → place ≡ place_at side l) → SidesAscend side items → true ≡ is_equal_at side items place
+  pub equal_found : (place : ℕ) → side x ≡ Equal → (SidesAscend side l → place ≡ lower_bound side l) → SidesAscend side items → true ≡ is_equal_at side items place
   equal_found place same child up =
       sym (level_middle side l x m (whole up) same) ∙ ap (λ (i : ℕ). is_equal_at side (l ++ x ∷ m) i) (sym (child (front up))) ∙ ap (λ (t : List T). is_equal_at side t place) (sym is)
 
-  pub greater_found : (place : ℕ) (found : Bool) → side x ≡ Greater → (SidesAscend side l → place ≡ place_at side l) → (SidesAscend side l → found ≡ is_equal_at side l place) → SidesAscend side items → found ≡ is_equal_at side items place
+  pub greater_found : (place : ℕ) (found : Bool) → side x ≡ Greater → (SidesAscend side l → place ≡ lower_bound side l) → (SidesAscend side l → found ≡ is_equal_at side l place) → SidesAscend side items → found ≡ is_equal_at side items place
   greater_found place found more child seen up =
-      let below : place ≡ place_at side l = child (front up) in
+      let below : place ≡ lower_bound side l = child (front up) in
       seen (front up) ∙ ap (λ (i : ℕ). is_equal_at side l i) below ∙ sym (level_left side l x m more) ∙ ap (λ (i : ℕ). is_equal_at side (l ++ x ∷ m) i) (sym below) ∙ ap (λ (t : List T). is_equal_at side t place) (sym is)

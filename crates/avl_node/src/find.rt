@@ -1,8 +1,9 @@
 // The place of something in a tree, by the side on which it has each element.
-ghost use Rattle.std.specs.Prelude.{◌≡◌, ◌≤◌, length, false};
+ghost use Rattle.std.specs.Prelude.{◌≡◌, ◌≤◌, length, false, MatchResult};
 ghost use Rattle.std.specs.declared.cmp.Ordering.{Ordering};
 ghost use Rattle.imm_base.specs.Lists.{is_unsorted};
-ghost use Rattle.avl_node.specs.Sides.{place_at, is_equal_at, SidesAscend};
+ghost use Rattle.avl_node.specs.Search.{IsFoundAt, IsMissingAt};
+ghost use Rattle.avl_node.specs.Sides.{lower_bound, is_equal_at, SidesAscend};
 
 use crate::tree::{Node, Root, Tree};
 use imm_base::{Item, Order};
@@ -33,33 +34,56 @@ impl<T, O: Order<T>> Probe<T> for Sought<'_, T, O> {
 }
 
 impl<T: Item> Tree<T> {
-    /// The place of the first element that is not before what is looked for, and whether that
-    /// element is equal to it. It looks at no more than one element a level, which no clause says.
-    pub fn find_at<P: Probe<T>>(&self, probe: &P) -> (u32, bool)
-        requires { SidesAscend (P.side probe.now) self.now.items }
-        ensures place { result.0 ≡ place_at (P.side probe.now) self.now.items }
-        ensures found { result.1 ≡ is_equal_at (P.side probe.now) self.now.items result.0 }
-    {
-        self.find_in(probe)
-    }
-
-    /// The place of the first element that is not less than the value, and whether that element
-    /// compares equal. It compares no more than one element a level, which no clause says.
+    /// The first place whose element is not less than the value, and whether that element compares
+    /// equal. O(log n): it compares at most one element a level, which no clause says.
     pub fn find_by<O: Order<T>>(&self, value: &T, order: &O) -> (u32, bool)
         requires { is_unsorted (O.order order.now) self.now.items ≡ false }
-        ensures place { result.0 ≡ place_at (λ x. O.order order.now x value.now) self.now.items }
-        ensures found { result.1 ≡ is_equal_at (λ x. O.order order.now x value.now) self.now.items result.0 }
+        ensures place { result.0
+            ≡ lower_bound (λ x. O.order order.now x value.now) self.now.items }
+        ensures found { result.1
+            ≡ is_equal_at (λ x. O.order order.now x value.now) self.now.items result.0 }
     {
-        let sought = Sought { value, order };
-        self.find_at(&sought)
+        match self.search_by(value, order) {
+            Ok(place) => (place, true),
+            Err(place) => (place, false),
+        }
     }
 
-    // `find_at`, which says nothing of the place where the sides do not ascend.
-    fn find_in<P: Probe<T>>(&self, probe: &P) -> (u32, bool)
-        ensures within { result.0 ≤ length self.now.items }
-        ensures place { SidesAscend (P.side probe.now) self.now.items → result.0 ≡ place_at (P.side probe.now) self.now.items }
-        ensures found { SidesAscend (P.side probe.now) self.now.items → result.1 ≡ is_equal_at (P.side probe.now) self.now.items result.0 }
+    /// The place of the first element that compares equal to the value, or the place that the value
+    /// would have where none does. O(log n): it compares at most one element a level, which no
+    /// clause says.
+    pub fn search_by<O: Order<T>>(&self, value: &T, order: &O) -> Result<u32, u32>
+        requires { is_unsorted (O.order order.now) self.now.items ≡ false }
+        ensures { MatchResult result
+            (IsFoundAt (λ x. O.order order.now x value.now) self.now.items)
+            (IsMissingAt (λ x. O.order order.now x value.now) self.now.items) }
     {
+        let sought = Sought { value, order };
+        self.search(&sought)
+    }
+
+    /// The place of the first element that is equal to what is looked for, or the place that it
+    /// would have where none is. O(log n): it looks at at most one element a level, which no clause
+    /// says.
+    pub fn search<P: Probe<T>>(&self, probe: &P) -> Result<u32, u32>
+        requires { SidesAscend (P.side probe.now) self.now.items }
+        ensures { MatchResult result (IsFoundAt (P.side probe.now) self.now.items)
+            (IsMissingAt (P.side probe.now) self.now.items) }
+    {
+        let (place, found) = self.find_in(probe);
+        if found { Ok(place) } else { Err(place) }
+    }
+
+    /// The first place whose element is not before what is looked for, and whether that element is
+    /// equal to it. It says nothing of the place where the sides do not ascend. O(log n).
+    pub fn find_in<P: Probe<T>>(&self, probe: &P) -> (u32, bool)
+        ensures within { result.0 ≤ length self.now.items }
+        ensures place { SidesAscend (P.side probe.now) self.now.items →
+            result.0 ≡ lower_bound (P.side probe.now) self.now.items }
+        ensures found { SidesAscend (P.side probe.now) self.now.items →
+            result.1 ≡ is_equal_at (P.side probe.now) self.now.items result.0 }
+    {
+        // (for the proof alone: that the count fits 32 bits)
         let _count = self.count();
         match &self.root {
             Root::Empty => (0, false),

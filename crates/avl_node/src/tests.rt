@@ -115,7 +115,7 @@ fn refusals_tell_the_place_and_the_count(rt: HostRuntime) -> Result<(), Fail> {
 #[test]
 fn a_search_compares_one_element_a_level(rt: HostRuntime) -> Result<(), Fail> {
     let full = full(rt.alloc())?;
-    assert_eq!(rt; full.height(), 15);
+    assert_eq!(rt; full.height(), 17);
     let calls = Cell::new(0u32);
     let order = Counting {
         order: ValOrder::Ordinal,
@@ -125,11 +125,11 @@ fn a_search_compares_one_element_a_level(rt: HostRuntime) -> Result<(), Fail> {
     let mut most = 0u32;
     for number in 0..LIMIT {
         calls.set(0);
-        let (place, found) = full.find_by(&Val::Int(i64::from(number)), &order);
-        assert!(rt; found && place == number);
+        let place = full.find_by(&Val::Int(i64::from(number)), &order);
+        assert_eq!(rt; place, (number, true));
         most = most.max(calls.get());
     }
-    assert!(rt; most <= 15, "{most} comparisons");
+    assert!(rt; most <= 17, "{most} comparisons");
     Ok(())
 }
 

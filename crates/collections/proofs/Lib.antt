@@ -1,4 +1,12 @@
+pub mod Arrays
+pub mod Comparers
+pub mod Dicts
+pub mod HashSets
+pub mod Judged
+pub mod Lists
+pub mod Maps
+pub mod Projections
 pub mod Sequences
-pub mod Shown
-pub mod NewSets
-pub mod Rekeyed
+pub mod Sets
+pub mod SortedMaps
+pub mod SortedSets

@@ -1,4 +1,3 @@
-pub mod Built
+pub mod Changes
 pub mod Kinds
-pub mod Forms
-pub mod Settled
+pub mod Reprs

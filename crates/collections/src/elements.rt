@@ -1,4 +1,4 @@
-//! The values that an argument stands for.
+//! The elements and pairs that an argument stands for.
 ghost use Rattle.std.specs.Prelude.{◌≡◌, true, map, IfOk};
 ghost use Rattle.imm_base.specs.declared.val.Val.TheVariants.{Int};
 ghost use Rattle.plain_model.specs.Plain.{elements, integers_from, pairs};
@@ -8,25 +8,25 @@ use imm_base::{Memory, Val};
 use plain_model::Values;
 use std::alloc::Global;
 
-/// The elements that are meant.
+/// The elements that are meant. O(n).
 pub(crate) fn elements(alloc: Global, values: &Values) -> Result<Vec<Val>, Memory>
     requires { is_within values.now ≡ true }
     ensures { IfOk result (λ v. v.items ≡ elements values.now) }
 {
     match values {
         Values::List(elements) => Ok(Vec::from_slice(alloc, elements.as_slice())?),
-        Values::Pairs(_) => Ok(Vec::new(alloc)),
+        Values::Pairs(_) | Values::Unset => Ok(Vec::new(alloc)),
         Values::Seq { first, count } => integers_from(alloc, *first, *count),
     }
 }
 
-/// The pairs that are meant.
+/// The pairs that are meant. O(n).
 pub(crate) fn pairs(alloc: Global, values: &Values) -> Result<Vec<(Val, Val)>, Memory>
     requires { is_within values.now ≡ true }
     ensures { IfOk result (λ v. v.items ≡ pairs values.now) }
 {
     match values {
-        Values::List(_) => Ok(Vec::new(alloc)),
+        Values::List(_) | Values::Unset => Ok(Vec::new(alloc)),
         Values::Pairs(pairs) => Ok(Vec::from_slice(alloc, pairs.as_slice())?),
         Values::Seq { first, count } => pairs_from(alloc, *first, *count),
     }
@@ -51,17 +51,18 @@ fn pairs_from(alloc: Global, first: i64, count: u32) -> Result<Vec<(Val, Val)>, 
     ensures { IfOk result (λ v. v.items ≡ map (λ z. (Int z, Int z)) (integers_from first count)) }
 {
     let integers = integers_from(alloc, first, count)?;
-    let pairs = with_itself(alloc, integers)?;
+    let pairs = doubled(alloc, integers)?;
     Ok(pairs)
 }
 
 // Each value with itself.
-fn with_itself(alloc: Global, values: Vec<Val>) -> Result<Vec<(Val, Val)>, Memory>
+fn doubled(alloc: Global, values: Vec<Val>) -> Result<Vec<(Val, Val)>, Memory>
     ensures { IfOk result (λ v. v.items ≡ map (λ x. (x, x)) values.items) }
 {
     let pairs = values
         .into_iter()
         .map(|value| {
+            // (for the prover, which does not see one variable given to two fields)
             let key = value;
             (key, value)
         })

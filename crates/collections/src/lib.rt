@@ -1,22 +1,21 @@
-//! Collections of any kind that is built, behind one type, as the plain model says.
+//! Collections of any kind that a run can have, behind one type, as the plain model says.
 #![tactic(auto)]
 
-mod changes;
+mod answers;
+mod array;
 mod collection;
+mod dict;
 mod elements;
-mod lists;
-mod making;
-mod maps;
-mod questions;
-mod rekeying;
-mod sets;
-mod sources;
+mod hash_set;
+mod list;
+mod of_kind;
+mod queue;
+mod sorted_map;
+mod sorted_set;
+mod stack;
 
 pub use collection::Collection;
-pub use rekeying::with_comparer;
-pub use sources::{op_on, query_on};
+pub use of_kind::{Changed, Judged};
 
-#[cfg(test)]
-mod sorted_tests;
 #[cfg(test)]
 mod tests;

@@ -13,7 +13,7 @@ use Rattle.imm_base.specs.Kept.{IsSet, CanKeep, IsPlainMap, IfNew}
 use Rattle.imm_base.proofs.Inserted.{insert_sorted_is_put, length-put}
 use Rattle.imm_base.proofs.KeptSets.{fits, length-filter_most, set_filter, set_insert, plain_filter, if_kept, edit_kept}
 
-is_some-find : {X : Type 0} (p : X → Bool) (xs : List X) → is_some (find p xs) ≡ list_any p xs
+pub is_some-find : {X : Type 0} (p : X → Bool) (xs : List X) → is_some (find p xs) ≡ list_any p xs
 is_some-find p [] = refl
 is_some-find p (x ∷ xs) = elim (p x) as (λ t. is_some (cond t (Some x) (find p xs)) ≡ (t || list_any p xs)) [
   | true ↦ refl
@@ -25,6 +25,14 @@ none_left p [] = refl
 none_left p (x ∷ xs) = elim (p x) as (λ t. p x ≡ t → list_any p (cond (not t) (x ∷ filter (λ y. not (p y)) xs) (filter (λ y. not (p y)) xs)) ≡ false) [
   | true ↦ λ _. none_left p xs
   | false ↦ λ e. rw e (none_left p xs)
+] refl
+
+-- nothing goes where the key is not present
+pub none_out : {K V : Type 0} (same : K → K → Bool) (k : K) (m : Entries K V) → has_key same k m ≡ false → without_key same k m ≡ m
+none_out same k [] none = refl
+none_out same k (e ∷ m) none = elim (same k e.0) as (λ t. same k e.0 ≡ t → cond (not t) (e ∷ without_key same k m) (without_key same k m) ≡ e ∷ m) [
+  | true ↦ λ is. absurd (let some = rw is at none in cc)
+  | false ↦ λ is. ap (λ t. e ∷ t) (none_out same k m (rw is at none))
 ] refl
 
 length-filter_fewer : {X : Type 0} (p : X → Bool) (xs : List X) → list_any p xs ≡ true → length (filter (λ x. not (p x)) xs) + 1 ≤ length xs

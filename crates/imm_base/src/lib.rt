@@ -19,13 +19,13 @@ mod tests;
 mod text24;
 mod val;
 
-pub use comparers::{ValEq, ValOrder, ValTest};
+pub use comparers::{SetTest, ValEq, ValOrder, ValTest};
 pub use dup::{Dup, Item, Key};
-pub use faults::{MapFault, SetFault};
+pub use faults::{Fault, MapFault, Refused, SetFault};
 pub use gate::{FreeGate, Gate, Tokens};
 pub use mem::{MemSink, MemSource};
 pub use memory::Memory;
-pub use order::{HashEq, Order, Test};
+pub use order::{HashEq, Order, Ordinal, Test};
 pub use outside::{Failed, Sink, Source};
 pub use pair::Pair;
 pub use pure::{PureSink, PureSource};
@@ -34,4 +34,4 @@ pub use text24::Text24;
 pub use val::{Edit, Step, Val};
 
 /// The most elements of a collection.
-pub const LIMIT: u32 = 16_384;
+pub const LIMIT: u32 = 65_536;

@@ -16,10 +16,24 @@ pub trait Order<T>: Copy + Eq {
     ghost total: { (o : Self) → IsTotalOrder (order o) };
 }
 
+/// The elements' own order.
+#[derive(Clone, Copy, Debug, PartialEq, Eq)]
+pub struct Ordinal;
+
+impl<T: Ord> Order<T> for Ordinal {
+    ghost order = { λ _. T.cmp };
+
+    fn compare(&self, a: &T, b: &T) -> Ordering {
+        a.cmp(b)
+    }
+
+    ghost total = { λ _. T.total };
+}
+
 /// An equality of elements, with a hash that same elements share.
 ///
-/// An equivalence calls each element same to itself. What is equal as a `Key` is one value, so equal
-/// elements are same (`laws::equal_is_same`).
+/// An equivalence calls each element same to itself. What is equal as a `Key` is one value, so
+/// equal elements are same (`laws::equal_is_same`).
 pub trait HashEq<T>: Copy + Eq {
     /// What `same` answers.
     ghost same: { Self → T → T → Bool };

@@ -1,12 +1,5 @@
 pub mod Buffer
 pub mod Complete
-pub mod Known
+pub mod StreamSteps
 pub mod Told
-pub mod Histories
-pub mod Stands
-pub mod Bindings
-pub mod Kept
-pub mod Deeds
 pub mod Readiness
-pub mod Works
-pub mod OneRun

@@ -1,325 +1,394 @@
--- A command that is ready has an effect, and the names stay known.
-use Rattle.std.proofs.Common.{◌≡◌, ℕ, Bool, true, false, ◌&&◌, List, [], ◌∷◌, None, Some, Ok, Err, refl, ap, sym, subst, ◌∙◌}
-use Rattle.std.specs.Prelude.{Option, Result, is_some, option_map, if◌then◌else◌, map, find, nat_lt, bytes_eq, IfOk}
+-- What the parser has checked can be done.
+use Rattle.std.proofs.Common.{◌≡◌, ℕ, zero, suc, ◌+◌, ◌<◌, Bool, true, false, ◌&&◌, List, [], ◌∷◌, length, None, Some, Ok, Err, refl, ap, sym, subst, ◌∙◌, arith}
+use Rattle.std.specs.Prelude.{Option, Result, option_map, if◌then◌else◌, map, bytes_eq, slice_get, is_some}
+use Rattle.std.specs.List.{AllByRecursion}
+use Rattle.std.proofs.lemmas.Slice.Eq.{bytes_eq-Decides}
+use Rattle.imm_base.specs.declared.val.Val.{Val}
 use Rattle.imm_base.specs.declared.val.Edit.TheVariants.{Same, New}
-use Rattle.plain_model.specs.declared.plain.Plain.{Plain}
+use Rattle.imm_base.specs.declared.comparers.ValOrder.{ValOrder}
+use Rattle.imm_base.specs.declared.comparers.ValOrder.TheVariants as orders
+use Rattle.imm_base.specs.declared.comparers.ValEq.{ValEq}
+use Rattle.imm_base.specs.declared.comparers.ValEq.TheVariants as equalities
 use Rattle.plain_model.specs.declared.plain.Kind.{Kind}
+use Rattle.plain_model.specs.declared.plain.Kind.TheVariants as kinds
 use Rattle.plain_model.specs.declared.plain.Comparer.{Comparer}
+use Rattle.plain_model.specs.declared.plain.Comparer.TheVariants as comparers
 use Rattle.plain_model.specs.declared.plain.Values.{Values}
+use Rattle.plain_model.specs.declared.plain.Plain.{Plain}
+use Rattle.plain_model.specs.declared.kinds.ItemKind.{ItemKind}
+use Rattle.plain_model.specs.declared.kinds.ItemKind.TheVariants.{Elements}
+use Rattle.plain_model.specs.declared.names.Class.{Class}
+use Rattle.plain_model.specs.declared.names.Class.TheVariants as classes
 use Rattle.plain_model.specs.declared.commands.PlainOp.{PlainOp}
 use Rattle.plain_model.specs.declared.commands.Query.{Query}
 use Rattle.plain_model.specs.declared.commands.Command.{Command}
 use Rattle.plain_model.specs.declared.commands.Command.TheVariants as commands
-use Rattle.plain_model.specs.Sources.{is_within, are_within, op_values, query_values}
-use Rattle.plain_model.specs.declared.commands.PlainCall.TheVariants as plain_calls
 use Rattle.plain_model.specs.declared.history.Refusal.{Refusal}
-use Rattle.plain_model.specs.Plain.{count, made, plain, nothing}
-use Rattle.plain_model.specs.Work.{on_cell, publish_limit}
-use Rattle.plain_model.specs.Queries.{answer, shown}
-use Rattle.plain_model.specs.Locals.{◌>>=◌, Name, Locals, Bound, collection, op_on, query_on, edited, with_comparer, has_comparer, rekeyed}
-use Rattle.script.specs.Drafts.{cell_kind, local_kind, for_all, is_kind, bound_as, with_name}
-use Rattle.script.specs.Ready.{is_bound, is_declared, is_source, is_of_cell, binds, is_built, is_ready}
-use Rattle.script.specs.Ready.{rekeyed as rekeyed_name}
+use Rattle.plain_model.specs.declared.report.Answer.{Answer}
+use Rattle.plain_model.specs.declared.report.Answer.TheVariants as answers
 use Rattle.plain_model.specs.declared.report.CellDecl.{CellDecl}
-use Rattle.collections.specs.Settled.{rekeyed_by, new_or_refused}
-use Rattle.immrun_core.specs.declared.cells.Running.{Running}
-use Rattle.immrun_core.specs.declared.names.Named.{Named}
-use Rattle.immrun_core.specs.Cells.{value_in, decls_of, IsOfKind, HaveKinds}
-use Rattle.immrun_core.specs.Names.{value_of, Binds, BindsSome, Agree, bound_to, values_from, op_from, query_from, new_told, let_told, rekey_told, rekey_of, only_told, is_allowed}
-use Rattle.immrun_core.specs.Effects.{Effect, local_effect, read_effect, publish_effect, effect}
-use Rattle.immrun_core.proofs.Bindings.{same_bytes, bytes_same}
-use Rattle.immrun_core.proofs.Deeds.{is_there, some_of}
-use Rattle.immrun_core.proofs.Kept.{clash, made_kind, plain_keeps, edited_kind, update_kind, rekeyed_kind, kind_same, own_comparer, Suits}
-use Rattle.immrun_core.specs.Works.{ordinal_of}
+use Rattle.plain_model.specs.declared.report.Part.{Part}
+use Rattle.plain_model.specs.Comparers.{order_named, equality_named, name_of_order, name_of_equality, comparer_eq, with_comparer, has_comparer}
+use Rattle.plain_model.specs.Kinds.{is_kind, items_of_kind, items_of_op}
+use Rattle.plain_model.specs.Names.{Name, Bindings, get, with_name, contents_kind}
+use Rattle.plain_model.specs.Sources.{is_within, are_within, op_values, query_values, op_with_values, query_with_values}
+use Rattle.plain_model.specs.Plain.{Shape, list_like, stack_like, queue_like, set_like, map_like, shape_of, made, nothing, plain, order_of, same_of, pairs}
+use Rattle.plain_model.specs.Queries.{answer, shown}
+use Rattle.plain_model.specs.Locals.{◌>>=◌, Locals, no_locals, Given, gives, bind, bound, collection, as_collection, contents, collection_at, contents_at, source, op_from, query_from, new_given, edited, let_given, rekeyed, shape_rekeyed, pairs_or_present, rekey, rekey_given, ask_given, local}
+use Rattle.locals.specs.Results.{can_run}
+use Rattle.runs.specs.Places.{cell_place, kinds_of, AreApart}
+use Rattle.runs.specs.Needs.{CanDo, CanPublish, CanAnswer, Leaves, BindsRead, IsAnswered, CanDoAll, CanBegin}
+use Rattle.runs.proofs.OneCell.{made_kind, plain_keeps, edited_kind}
+use Rattle.script_line.specs.Lines.{command_values}
+use Rattle.script.specs.Symbols.{Binding, cell_kind, with_bound}
+use Rattle.script.specs.Commands.{binding}
+use Rattle.script.specs.Commands as script
+use Rattle.script.specs.Ready.{IsChecked, AreReady, AreDistinct, HasFirst}
+use Rattle.script.proofs.Checked.{check_binding, update_checked, read_checked, publish_checked, new_checked, let_checked, rekey_checked, ask_checked, show_checked, HasContents, GivesItems, HasSource}
 
--- A local name with its kind: what a command of a script binds. Its type is named so, since the grammar keeps it to itself.
-abbrev pub Inside : {A : Type 0} → Option A → Type 0
-Inside {A} o = A
+clash : (b : Bool) → b ≡ true → b ≡ false → ⊥
+clash b t f = cc
 
-abbrev pub LocalName : Type 0
-LocalName = Inside (binds [] [] (commands.Show []))
+same_bytes : (x y : Name) → bytes_eq x y ≡ true → x ≡ y
+same_bytes x y e = (bytes_eq-Decides x y).0 e
 
-both_left : (a b : Bool) → (a && b) ≡ true → a ≡ true
-both_left true b e = refl
-both_left false b e = e
+bytes_same : (x y : Name) → x ≡ y → bytes_eq x y ≡ true
+bytes_same x y e = (bytes_eq-Decides x y).1 e
 
-both_right : (a b : Bool) → (a && b) ≡ true → b ≡ true
-both_right true b e = e
-both_right false b e = cc
-
--- ---- names that are known
-
--- each name that is bound by the script has a value of its kind
-abbrev pub Known : List LocalName → List Named → Type 0
-Known locals names = (x : Name) (kind : Kind) → local_kind locals x ≡ Some kind → IsOfKind kind (value_of names x)
-
--- the kind of a name, where another name is bound
-kind_bound : (b : LocalName) (locals : List LocalName) (x : Name) → local_kind (bound_as b locals) x ≡ (if bytes_eq b.name x then Some b.kind else local_kind locals x)
-kind_bound b [] x = refl
-kind_bound b (l ∷ locals) x = split (bytes_eq l.name b.name) (bytes_eq l.name x) (bytes_eq b.name x) refl refl refl (kind_bound b locals x)
+turned : (x y : Name) (b : Bool) → bytes_eq x y ≡ b → bytes_eq y x ≡ b
+turned x y true is = bytes_same y x (sym (same_bytes x y is))
+turned x y false is = by (bytes_eq y x) refl
   where
-    split : (t u v : Bool) → bytes_eq l.name b.name ≡ t → bytes_eq l.name x ≡ u → bytes_eq b.name x ≡ v
-        → local_kind (bound_as b locals) x ≡ (if v then Some b.kind else local_kind locals x)
-        → local_kind (if t then b ∷ locals else l ∷ bound_as b locals) x ≡ (if v then Some b.kind else (if u then Some l.kind else local_kind locals x))
-    split true u true et eu ev rest = ap (λ w. if w then Some b.kind else local_kind locals x) ev
-    split true true false et eu ev rest =
-        absurd (clash (bytes_eq b.name x) (bytes_same b.name x (sym (same_bytes l.name b.name et) ∙ same_bytes l.name x eu)) ev)
-    split true false false et eu ev rest = ap (λ w. if w then Some b.kind else local_kind locals x) ev
-    split false true true et eu ev rest =
-        absurd (clash (bytes_eq l.name b.name) (bytes_same l.name b.name (same_bytes l.name x eu ∙ sym (same_bytes b.name x ev))) et)
-    split false true false et eu ev rest = ap (λ w. if w then Some l.kind else local_kind (bound_as b locals) x) eu
-    split false false v et eu ev rest = ap (λ w. if w then Some l.kind else local_kind (bound_as b locals) x) eu ∙ rest
+    by : (c : Bool) → bytes_eq y x ≡ c → bytes_eq y x ≡ false
+    by true at = absurd (clash (bytes_eq x y) (bytes_same x y (sym (same_bytes y x at))) is)
+    by false at = at
 
-known_with : (locals : List LocalName) (b : LocalName) (names after : List Named) (p : Plain) → Known locals names → p.kind ≡ b.kind → Binds b.name p names after → Known (with_name locals (Some b)) after
-known_with locals b names after p known same new x kind h = split (bytes_eq b.name x) refl (new x) (sym (kind_bound b locals x) ∙ h)
+-- ---- cells
+
+none_named : (cells : List CellDecl) (name : Name) → cell_kind cells name ≡ None → AllByRecursion (λ e. bytes_eq name e.name ≡ false) cells
+none_named [] name e = tt
+none_named (c ∷ cells) name e = split (bytes_eq c.name name) refl e (none_named cells name)
   where
-    some_kind : Some b.kind ≡ Some kind → b.kind ≡ kind
-    some_kind e = cc
+    split : (t : Bool) → bytes_eq c.name name ≡ t → (if t then Some c.kind else cell_kind cells name) ≡ None → (cell_kind cells name ≡ None → AllByRecursion (λ e. bytes_eq name e.name ≡ false) cells)
+        → (bytes_eq name c.name ≡ false) × AllByRecursion (λ e. bytes_eq name e.name ≡ false) cells
+    split true is e rest = absurd cc
+    split false is e rest = (turned c.name name false is, rest e)
 
-    split : (t : Bool) → bytes_eq b.name x ≡ t → value_of after x ≡ (if t then Some p else value_of names x) → (if t then Some b.kind else local_kind locals x) ≡ Some kind
-        → IsOfKind kind (value_of after x)
-    split true e new h = record { value = p; is = new; kind = same ∙ some_kind h }
-    split false e new h = let v = known x kind h in record { value = v.value; is = new ∙ v.is; kind = v.kind }
+pub are_apart : (cells : List CellDecl) → AreDistinct cells → AreApart cells
+are_apart [] d = tt
+are_apart (c ∷ cells) d = (none_named cells c.name d.0, are_apart cells d.1)
 
-known_as : (locals : List LocalName) (names : List Named) → Known locals names → (after : List Named) → after ≡ names → Known locals after
-known_as locals names known after e = subst (Known locals) (sym e) known
+pub can_begin : (cells : List CellDecl) → AllByRecursion HasFirst cells → AllByRecursion CanBegin cells
+can_begin [] all = tt
+can_begin (c ∷ cells) all = (record { kind = all.0.kind; within = all.0.within; made = all.0.made }, can_begin cells all.1)
 
--- names that agree, after a name more
-pub agree_on : (names after : List Named) (n : Option Named) (s : Locals) → Agree names s → BindsSome n names after → Agree after (bound_to n s)
-agree_on names after None s agree new x = subst (λ ns. Agree ns s) (sym new) agree x
-agree_on names after (Some n) s agree new x = split (bytes_eq n.name x) (new x)
+-- a cell that is declared has a place, with its kind
+record HasPlace (cells : List CellDecl) (name : Name) (k : Kind) : Type 0 where
+  pub place : cell_place cells name < length cells
+  pub kind : slice_get (kinds_of cells) (cell_place cells name) ≡ Some k
+
+has_place : (cells : List CellDecl) (name : Name) (k : Kind) → cell_kind cells name ≡ Some k → HasPlace cells name k
+has_place [] name k e = absurd cc
+has_place (c ∷ cells) name k e = split (bytes_eq c.name name) refl e (has_place cells name k)
   where
-    split : (t : Bool) → value_of after x ≡ (if t then Some n.value else value_of names x)
-        → option_map (λ (m : Name × Bound). m.1) (if t then Some (n.name, collection n.value) else find (λ m. bytes_eq m.0 x) s.names) ≡ option_map collection (value_of after x)
-    split true e = sym (ap (option_map collection) e)
-    split false e = agree x ∙ sym (ap (option_map collection) e)
+    split : (t : Bool) → bytes_eq c.name name ≡ t → (if t then Some c.kind else cell_kind cells name) ≡ Some k → (cell_kind cells name ≡ Some k → HasPlace cells name k) → HasPlace (c ∷ cells) name k
+    split true is e rest =
+        let at : cell_place (c ∷ cells) name ≡ 0 = ap (λ t. if t then 0 else suc (cell_place cells name)) is in
+        record { place = omega arith; kind = ap (slice_get (kinds_of (c ∷ cells))) at ∙ e }
+    split false is e rest =
+        let h = rest e in
+        let at : cell_place (c ∷ cells) name ≡ suc (cell_place cells name) = ap (λ t. if t then 0 else suc (cell_place cells name)) is in
+        record { place = let p = h.place in omega arith; kind = ap (slice_get (kinds_of (c ∷ cells))) at ∙ h.kind }
 
--- ---- cells that are declared
+-- ---- names
 
-declared_is_there : (cells : List Running) (name : Name) → is_declared (map (λ c. c.decl) cells) name ≡ is_some (value_in cells name)
-declared_is_there [] name = refl
-declared_is_there (c ∷ cells) name = split (bytes_eq c.decl.name name) (declared_is_there cells name)
-  where
-    split : (t : Bool) → is_declared (map (λ c. c.decl) cells) name ≡ is_some (value_in cells name)
-        → is_some (if t then Some c.decl.kind else cell_kind (map (λ c. c.decl) cells) name) ≡ is_some (if t then Some c.value else value_in cells name)
-    split true e = refl
-    split false e = e
-
--- ---- values that are there
-
--- the kind of a name that is bound, and its value
-pub record HasValue (locals : List LocalName) (names : List Named) (x : Name) : Type 0 where
-  pub kind : Kind
-  pub is : local_kind locals x ≡ Some kind
-  pub of : IsOfKind kind (value_of names x)
-
-value_at : (locals : List LocalName) (names : List Named) (x : Name) → Known locals names → is_bound locals x ≡ true → HasValue locals names x
-value_at locals names x known e =
-    let k = some_of (local_kind locals x) e in
-    record { kind = k.0; is = k.1; of = known x k.0 k.1 }
-
-there_of : {A : Type 0} (v : Option A) (a : A) → v ≡ Some a → is_some v ≡ true
-there_of v a e = ap is_some e
-
-value_there : (locals : List LocalName) (names : List Named) (x : Name) → Known locals names → is_bound locals x ≡ true → is_some (value_of names x) ≡ true
-value_there locals names x known e = let v = value_at locals names x known e in there_of (value_of names x) v.of.value v.of.is
-
-mapped_there : {A B : Type 0} (f : A → B) (v : Option A) → is_some v ≡ true → is_some (option_map f v) ≡ true
-mapped_there f None e = e
-mapped_there f (Some a) e = refl
-
-values_there : (locals : List LocalName) (names : List Named) (src : Values) (from : Option Name) → Known locals names → is_source locals from ≡ true → is_some (values_from names src from) ≡ true
-values_there locals names src None known e = refl
-values_there locals names src (Some x) known e = mapped_there (λ p. p.values) (value_of names x) (value_there locals names x known e)
-
-op_there : (locals : List LocalName) (names : List Named) (op : PlainOp) (from : Option Name) → Known locals names → is_source locals from ≡ true → is_some (op_from names op from) ≡ true
-op_there locals names op None known e = refl
-op_there locals names op (Some x) known e = mapped_there (λ p. op_on op p.values) (value_of names x) (value_there locals names x known e)
-
-query_there : (locals : List LocalName) (names : List Named) (query : Query) (from : Option Name) → Known locals names → is_source locals from ≡ true → is_some (query_from names query from) ≡ true
-query_there locals names query None known e = refl
-query_there locals names query (Some x) known e = mapped_there (λ p. query_on query p.values) (value_of names x) (value_there locals names x known e)
-
--- ---- what a ready command does
-
-pub record Acts (o : ℕ) (c : Command) (locals : List LocalName) (cells : List Running) (names : List Named) : Type 0 where
-  pub has : Effect
-  pub is : effect o c cells names ≡ Some has
-  pub allowed : is_allowed c ≡ true
-  pub there : is_there cells c ≡ true
-  pub ordinal : ordinal_of has.deed ≡ o
-  pub suits : Suits (decls_of cells) has.deed
-  pub known : (after : List Named) → BindsSome has.binds names after → Known (with_name locals (binds (map (λ c. c.decl) cells) locals c)) after
-
--- a name is bound with the kind that a value has
-known_kind : (locals : List LocalName) (x : Name) (found : Option Kind) (names after : List Named) (kind : Kind) (p : Plain) → Known locals names → found ≡ Some kind → p.kind ≡ kind → Binds x p names after
-    → Known (with_name locals (option_map (λ k. record { name = x; kind = k }) found)) after
-known_kind locals x None names after kind p known some same new = cc
-known_kind locals x (Some k) names after kind p known some same new = known_with locals (record { name = x; kind = k }) names after p known (same ∙ sym (some_kind some)) new
-  where
-    some_kind : Some k ≡ Some kind → k ≡ kind
-    some_kind e = cc
-
--- a name that is bound to a value of this kind
-pub record BindsKind (x : Name) (kind : Kind) (names after : List Named) : Type 0 where
+-- a name is bound to a collection of the kind that the parser knows
+record HasValue (class : Class) (s : Locals) (x : Name) : Type 0 where
   pub value : Plain
-  pub same : value.kind ≡ kind
-  pub binds : Binds x value names after
+  pub class_is : class ≡ classes.Collection value.kind
+  pub is : bound s x ≡ Some (collection value)
 
-new_binds : (x : Name) (kind : Kind) (vs : Values) (names after : List Named) (r : Result Plain Refusal) → made kind vs ≡ r → BindsSome (new_told x kind r).binds names after → BindsKind x kind names after
-new_binds x kind vs names after (Ok p) is new = record { value = p; same = made_kind kind vs p is; binds = new }
-new_binds x kind vs names after (Err e) is new = record { value = nothing kind; same = refl; binds = new }
+abbrev HaveKinds : Bindings Class → Locals → Type 0
+HaveKinds names s = (x : Name) (class : Class) → get names x ≡ Some class → HasValue class s x
 
-rekey_binds : (x : Name) (p : Plain) (kind : Kind) (names after : List Named) (own : Bool) (r : Result Plain Refusal) → (own ≡ true → p.kind ≡ kind) → IfOk r (λ q. q.kind ≡ kind)
-    → BindsSome (rekey_told x p kind (if own then Ok Same else new_or_refused r)).binds names after → BindsKind x kind names after
-rekey_binds x p kind names after true r same keeps new = record { value = p; same = same refl; binds = new }
-rekey_binds x p kind names after false (Ok q) same keeps new = record { value = q; same = keeps; binds = new }
-rekey_binds x p kind names after false (Err e) same keeps new = record { value = nothing kind; same = refl; binds = new }
-
-published_at : (o : ℕ) (name x : Name) (p : Plain) (t : Bool) → ordinal_of (publish_effect o name x p t).deed ≡ o
-published_at o name x p true = refl
-published_at o name x p false = refl
-
--- nothing is bound by it
-published_binds : (o : ℕ) (name x : Name) (p : Plain) (t : Bool) (names after : List Named) → BindsSome (publish_effect o name x p t).binds names after → after ≡ names
-published_binds o name x p true names after new = new
-published_binds o name x p false names after new = new
-
-published_kind : (found local : Option Kind) (kind k : Kind) → for_all (λ c. for_all (is_kind c) local) found ≡ true → found ≡ Some kind → local ≡ Some k → k ≡ kind
-published_kind None local kind k e at is = cc
-published_kind (Some c) None kind k e at is = cc
-published_kind (Some c) (Some l) kind k e at is = sym (some_same l k is) ∙ sym (kind_same c l e) ∙ some_same c kind at
+-- what a name is bound to, where another one is bound
+get-with_name : {T : Type 0} (x : Name) (v : T) (names : Bindings T) (y : Name) → get (with_name x v names) y ≡ (if bytes_eq x y then Some v else get names y)
+get-with_name x v [] y = refl
+get-with_name {T} x v (b ∷ names) y = split (bytes_eq b.0 x) (bytes_eq b.0 y) (bytes_eq x y) refl refl refl (get-with_name x v names y)
   where
-    some_same : (a b : Kind) → Some a ≡ Some b → a ≡ b
-    some_same a b e = cc
+    split : (t u w : Bool) → bytes_eq b.0 x ≡ t → bytes_eq b.0 y ≡ u → bytes_eq x y ≡ w → get (with_name x v names) y ≡ (if w then Some v else get names y)
+        → get (if t then (x, v) ∷ names else b ∷ with_name x v names) y ≡ (if w then Some v else (if u then Some b.1 else get names y))
+    split true u true et eu ew rest = ap (λ (z : Bool). if z then Some v else get names y) ew
+    split true true false et eu ew rest = absurd (clash (bytes_eq x y) (bytes_same x y (sym (same_bytes b.0 x et) ∙ same_bytes b.0 y eu)) ew)
+    split true false false et eu ew rest = ap (λ (z : Bool). if z then Some v else get names y) ew
+    split false true true et eu ew rest = absurd (clash (bytes_eq b.0 x) (bytes_same b.0 x (same_bytes b.0 y eu ∙ sym (same_bytes x y ew))) et)
+    split false true false et eu ew rest = ap (λ (z : Bool). if z then Some b.1 else get (with_name x v names) y) eu
+    split false false w et eu ew rest = ap (λ (z : Bool). if z then Some b.1 else get (with_name x v names) y) eu ∙ rest
 
-published_suits : (decls : List CellDecl) (o : ℕ) (name x : Name) (p : Plain) (t : Bool) → ((kind : Kind) → cell_kind decls name ≡ Some kind → p.kind ≡ kind) → Suits decls (publish_effect o name x p t).deed
-published_suits decls o name x p true same = tt
-published_suits decls o name x p false same = λ kind q at is. same kind at
+have_more : (names : Bindings Class) (s : Locals) (x : Name) (p : Plain) → HaveKinds names s → HaveKinds (with_name x (classes.Collection p.kind) names) (bind x (collection p) s)
+have_more names s x p have y class e = split (bytes_eq x y) refl (sym (get-with_name x (classes.Collection p.kind) names y) ∙ e)
+  where
+    split : (t : Bool) → bytes_eq x y ≡ t → (if bytes_eq x y then Some (classes.Collection p.kind) else get names y) ≡ Some class → HasValue class (bind x (collection p) s) y
+    split true is e =
+        let at : Some (classes.Collection p.kind) ≡ Some class = ap (λ (t : Bool). if t then Some (classes.Collection p.kind) else get names y) (sym is) ∙ e in
+        let same : classes.Collection p.kind ≡ class = cc in
+        record { value = p; class_is = sym same; is = get-with_name x (collection p) s.names y ∙ ap (λ (t : Bool). if t then Some (collection p) else bound s y) is }
+    split false is e =
+        let h = have y class (ap (λ (t : Bool). if t then Some (classes.Collection p.kind) else get names y) (sym is) ∙ e) in
+        record { value = h.value; class_is = h.class_is; is = get-with_name x (collection p) s.names y ∙ (ap (λ (t : Bool). if t then Some (collection p) else bound s y) is ∙ h.is) }
 
-pub acts : (o : ℕ) (c : Command) (locals : List LocalName) (cells : List Running) (names : List Named) → Known locals names → HaveKinds cells
-    → is_ready (map (λ c. c.decl) cells) locals c ≡ true → Acts o c locals cells names
-acts o (commands.Update name op) locals cells names known have ready =
-    let d = is_declared (map (λ c. c.decl) cells) name in
-    let w = are_within (op_values op) in
+-- a name bound with the kind that its value has
+have_bound : (names : Bindings Class) (s after : Locals) (x : Name) (k : Kind) (p : Plain) (b : Option Binding) → HaveKinds names s → p.kind ≡ k → after ≡ bind x (collection p) s → b ≡ script.collection x k
+    → HaveKinds (with_bound names b) after
+have_bound names s after x k p b have kind is binds =
+    subst (λ (o : Option Binding). HaveKinds (with_bound names o) after) (sym binds)
+    (subst (λ l. HaveKinds (with_name x (classes.Collection l) names) after) kind (subst (HaveKinds (with_name x (classes.Collection p.kind) names)) (sym is) (have_more names s x p have)))
+
+have_same : (names : Bindings Class) (s after : Locals) (b : Option Binding) → HaveKinds names s → after ≡ s → b ≡ None → HaveKinds (with_bound names b) after
+have_same names s after b have is none = subst (λ (o : Option Binding). HaveKinds (with_bound names o) after) (sym none) (subst (HaveKinds names) (sym is) have)
+
+-- ---- what names stand for
+
+some_kind : (k l : Kind) → classes.Collection k ≡ classes.Collection l → l ≡ k
+some_kind k l e = cc
+
+-- a name that is bound to a collection of this kind
+record HasPlain (s : Locals) (x : Name) (k : Kind) : Type 0 where
+  pub value : Plain
+  pub kind : value.kind ≡ k
+  pub bound : bound s x ≡ Some (collection value)
+
+collection_of : (names : Bindings Class) (s : Locals) (x : Name) (k : Kind) → HaveKinds names s → get names x ≡ Some (classes.Collection k) → HasPlain s x k
+collection_of names s x k have e =
+    let h = have x (classes.Collection k) e in
+    record { value = h.value; kind = some_kind k h.value.kind h.class_is; bound = h.is }
+
+contents_plain : (names : Bindings Class) (s : Locals) (x : Name) (k : Kind) → HaveKinds names s → HasContents names x k → HasPlain s x k
+contents_plain names s x k have c =
+    let h = have x c.class c.is in
+    record { value = h.value; kind = by (ap contents_kind (sym h.class_is) ∙ c.kind); bound = h.is }
+  where
+    by : {l : Kind} → Some l ≡ Some k → l ≡ k
+    by e = cc
+
+at_contents : (s : Locals) (x : Name) (k : Kind) → (h : HasPlain s x k) → contents_at s x ≡ Some h.value
+at_contents s x k h = ap (λ b. b >>= contents) h.bound
+
+at_collection : (s : Locals) (x : Name) (k : Kind) → (h : HasPlain s x k) → collection_at s x ≡ Some h.value
+at_collection s x k h = ap (λ b. b >>= as_collection) h.bound
+
+-- the values that a command is given
+source_there : (names : Bindings Class) (s : Locals) (needed : ItemKind) (src : Values) (from : Option Name) → HaveKinds names s → HasSource names needed from → (vs : Values) × (source s src from ≡ Some vs)
+source_there names s needed src None have h = (src, refl)
+source_there names s needed src (Some x) have h =
+    let p = contents_plain names s x h.kind have h.has in
+    (p.value.values, ap (option_map (λ (q : Plain). q.values)) (at_contents s x h.kind p))
+
+op_there : (names : Bindings Class) (s : Locals) (needed : ItemKind) (op : PlainOp) (from : Option Name) → HaveKinds names s → HasSource names needed from → (o : PlainOp) × (op_from s op from ≡ Some o)
+op_there names s needed op None have h = (op, refl)
+op_there names s needed op (Some x) have h =
+    let p = contents_plain names s x h.kind have h.has in
+    (op_with_values op p.value.values, ap (option_map (λ (q : Plain). op_with_values op q.values)) (at_contents s x h.kind p))
+
+query_there : (names : Bindings Class) (s : Locals) (needed : ItemKind) (query : Query) (from : Option Name) → HaveKinds names s → HasSource names needed from → (q : Query) × (query_from s query from ≡ Some q)
+query_there names s needed query None have h = (query, refl)
+query_there names s needed query (Some x) have h =
+    let p = contents_plain names s x h.kind have h.has in
+    (query_with_values query p.value.values, ap (option_map (λ (q : Plain). query_with_values query q.values)) (at_contents s x h.kind p))
+
+-- ---- kinds
+
+order_same : (a b : ValOrder) → comparer_eq (name_of_order b) (name_of_order a) ≡ true → a ≡ b
+order_same orders.Ordinal orders.Ordinal e = refl
+order_same orders.Reverse orders.Reverse e = refl
+order_same orders.NoCase orders.NoCase e = refl
+order_same _ _ e = cc
+
+equality_same : (a b : ValEq) → comparer_eq (name_of_equality b) (name_of_equality a) ≡ true → a ≡ b
+equality_same equalities.Ordinal equalities.Ordinal e = refl
+equality_same equalities.NoCase equalities.NoCase e = refl
+equality_same equalities.One equalities.One e = refl
+equality_same _ _ e = cc
+
+kind_same : (a b : Kind) → is_kind a b ≡ true → a ≡ b
+kind_same kinds.List kinds.List e = refl
+kind_same kinds.Array kinds.Array e = refl
+kind_same kinds.Stack kinds.Stack e = refl
+kind_same kinds.Queue kinds.Queue e = refl
+kind_same (kinds.SSet a) (kinds.SSet b) e = ap kinds.SSet (order_same a b e)
+kind_same (kinds.SMap a) (kinds.SMap b) e = ap kinds.SMap (order_same a b e)
+kind_same (kinds.Dict a) (kinds.Dict b) e = ap kinds.Dict (equality_same a b e)
+kind_same (kinds.HSet a) (kinds.HSet b) e = ap kinds.HSet (equality_same a b e)
+kind_same _ _ e = cc
+
+order_own : (order : ValOrder) (c : Comparer) → comparer_eq c (name_of_order order) ≡ true → order_named c ≡ Some order
+order_own orders.Ordinal comparers.Ordinal e = refl
+order_own orders.Reverse comparers.Reverse e = refl
+order_own orders.NoCase comparers.NoCase e = refl
+order_own _ _ e = cc
+
+equality_own : (eq : ValEq) (c : Comparer) → comparer_eq c (name_of_equality eq) ≡ true → equality_named c ≡ Some eq
+equality_own equalities.Ordinal comparers.Ordinal e = refl
+equality_own equalities.NoCase comparers.NoCase e = refl
+equality_own equalities.One comparers.One e = refl
+equality_own _ _ e = cc
+
+-- a kind with its own comparer
+own_comparer : (kind : Kind) (c : Comparer) → has_comparer kind c ≡ true → with_comparer kind c ≡ Some kind
+own_comparer (kinds.SSet order) c e = ap (option_map kinds.SSet) (order_own order c e)
+own_comparer (kinds.SMap order) c e = ap (option_map kinds.SMap) (order_own order c e)
+own_comparer (kinds.Dict eq) c e = ap (option_map kinds.Dict) (equality_own eq c e)
+own_comparer (kinds.HSet eq) c e = ap (option_map kinds.HSet) (equality_own eq c e)
+own_comparer _ c e = cc
+
+-- ---- local commands
+
+-- the names after a command that the model answers
+after_answer : (c : Command) (s after : Locals) (g : Given) → local c s ≡ Some g → IsAnswered c s after → after ≡ g.after
+after_answer c s after g is a = by (sym a.is ∙ is)
+  where
+    by : Some (gives a.answer after) ≡ Some g → after ≡ g.after
+    by e = let same : gives a.answer after ≡ g = cc in ap (λ (x : Given). x.after) same
+
+-- the names after a command bind a name to a collection of this kind
+record BindsKind (x : Name) (k : Kind) (s after : Locals) : Type 0 where
+  pub value : Plain
+  pub kind : value.kind ≡ k
+  pub binds : after ≡ bind x (collection value) s
+
+new_binds : (x : Name) (kind : Kind) (vs : Values) (s : Locals) (r : Result Plain Refusal) → made kind vs ≡ r → BindsKind x kind s (new_given x kind r s).after
+new_binds x kind vs s (Ok p) is = record { value = p; kind = made_kind kind vs p is; binds = refl }
+new_binds x kind vs s (Err e) is = record { value = nothing kind; kind = refl; binds = refl }
+
+rekeyed_binds : (y : Name) (p : Plain) (k : Kind) (s : Locals) (own : Bool) (r : Result Plain Refusal) → (own ≡ true → p.kind ≡ k) → ((q : Plain) → r ≡ Ok q → q.kind ≡ k)
+    → BindsKind y k s (if own then gives answers.Same (bind y (collection p) s) else rekey_given y k r s).after
+rekeyed_binds y p k s true r same keeps = record { value = p; kind = same refl; binds = refl }
+rekeyed_binds y p k s false (Ok q) same keeps = record { value = q; kind = keeps q refl; binds = refl }
+rekeyed_binds y p k s false (Err e) same keeps = record { value = nothing k; kind = refl; binds = refl }
+
+-- a collection under another comparer has the kind that it has then
+rekeyed_kind : (kind : Kind) (vs : Values) (q : Plain) → rekeyed kind vs ≡ Ok q → q.kind ≡ kind
+rekeyed_kind kind vs q e = by_shape (shape_of kind) e
+  where
+    present : (r : Result (List (Val × Val)) Val) → pairs_or_present kind r ≡ Ok q → q.kind ≡ kind
+    present (Ok ps) e = cc
+    present (Err u) e = cc
+
+    by_shape : (s : Shape) → shape_rekeyed s kind vs ≡ Ok q → q.kind ≡ kind
+    by_shape list_like e = cc
+    by_shape stack_like e = cc
+    by_shape queue_like e = cc
+    by_shape set_like e = cc
+    by_shape map_like e = present _ e
+
+-- ---- a row for each command
+
+record CanGoOn (cells : List CellDecl) (names : Bindings Class) (c : Command) (b : Option Binding) (s : Locals) : Type 0 where
+  pub can : CanDo cells c s
+  pub kinds : (after : Locals) → Leaves cells c s after → HaveKinds (with_bound names b) after
+
+both : (a b : Bool) → a ≡ true → b ≡ true → (a && b) ≡ true
+both true b e f = f
+both false b e f = e
+
+can_go_on : (cells : List CellDecl) (names : Bindings Class) (c : Command) (b : Option Binding) (s : Locals) → HaveKinds names s → binding cells names c ≡ Ok b → are_within (command_values c) ≡ true → CanGoOn cells names c b s
+unfolding binding
+can_go_on cells names (commands.Update cell op) b s have ok within =
+    let r = update_checked cells names cell op b ok in
     record {
-      has = record { deed = on_cell name (record { ordinal = o; call = plain_calls.Update op }); binds = None };
-      is = refl;
-      allowed = both_right d w ready;
-      there = sym (declared_is_there cells name) ∙ both_left d w ready;
-      ordinal = refl;
-      suits = λ kind p at same. update_kind op p ∙ same;
-      known = known_as locals names known;
+      can = ((has_place cells cell r.0 r.1).place, within);
+      kinds = λ after leaves. have_same names s after b have leaves r.3;
     }
-acts o (commands.Read name x) locals cells names known have ready =
-    let k = some_of (cell_kind (map (λ c. c.decl) cells) name) ready in
-    let v = have name k.0 k.1 in
+can_go_on cells names (commands.Read cell x) b s have ok within =
+    let r = read_checked cells names cell x b ok in
+    let h = has_place cells cell r.0 r.1 in
     record {
-      has = read_effect o name x v.value;
-      is = ap (λ v. v >>= λ p. Some (read_effect o name x p)) v.is;
-      allowed = refl;
-      there = refl;
-      ordinal = refl;
-      suits = λ kind p at same. same;
-      known = λ after new. known_kind locals x (cell_kind (map (λ c. c.decl) cells) name) names after k.0 v.value known k.1 v.kind new;
-    }
-acts o (commands.Publish name x) locals cells names known have ready =
-    let d = is_declared (map (λ c. c.decl) cells) name in
-    let b = is_bound locals x in
-    let f = is_of_cell (map (λ c. c.decl) cells) locals name x in
-    let v = value_at locals names x known (both_right d b (both_left (d && b) f ready)) in
-    let p = v.of.value in
-    record {
-      has = publish_effect o name x p (nat_lt publish_limit (count p.values));
-      is = ap (λ v. v >>= λ p. Some (publish_effect o name x p (nat_lt publish_limit (count p.values)))) v.of.is;
-      allowed = refl;
-      there = sym (declared_is_there cells name) ∙ both_left d b (both_left (d && b) f ready);
-      ordinal = published_at o name x p (nat_lt publish_limit (count p.values));
-      suits = published_suits (decls_of cells) o name x p (nat_lt publish_limit (count p.values))
-          (λ kind at. v.of.kind ∙ published_kind (cell_kind (map (λ c. c.decl) cells) name) (local_kind locals x) kind v.kind (both_right (d && b) f ready) at v.is);
-      known = λ after new. known_as locals names known after (published_binds o name x p (nat_lt publish_limit (count p.values)) names after new);
-    }
-acts o (commands.New x kind src from) locals cells names known have ready =
-    let b = is_built kind in
-    let f = is_source locals from in
-    let w = is_within src in
-    let vs = some_of (values_from names src from) (values_there locals names src from known (both_right b f (both_left (b && f) w ready))) in
-    record {
-      has = local_effect o (commands.New x kind src from) (new_told x kind (made kind vs.0));
-      is = ap (λ v. option_map (local_effect o (commands.New x kind src from)) (v >>= λ us. Some (new_told x kind (made kind us)))) vs.1;
-      allowed = both b w (both_left b f (both_left (b && f) w ready)) (both_right (b && f) w ready);
-      there = refl;
-      ordinal = refl;
-      suits = tt;
-      known = λ after new. let n = new_binds x kind vs.0 names after (made kind vs.0) refl new in known_with locals (record { name = x; kind = kind }) names after n.value known n.same n.binds;
+      can = h.place;
+      kinds = λ after leaves. have_bound names s after x r.0 leaves.value b have (by (sym leaves.kind ∙ h.kind)) leaves.binds r.2;
     }
   where
-    both : (a b : Bool) → a ≡ true → b ≡ true → (a && b) ≡ true
-    both true b e f = f
-    both false b e f = e
-acts o (commands.Let y x op from) locals cells names known have ready =
-    let b = is_bound locals x in
-    let f = is_source locals from in
-    let w = are_within (op_values op) in
-    let v = value_at locals names x known (both_left b f (both_left (b && f) w ready)) in
-    let p = v.of.value in
-    let q = some_of (op_from names op from) (op_there locals names op from known (both_right b f (both_left (b && f) w ready))) in
+    by : {k l : Kind} → Some k ≡ Some l → k ≡ l
+    by e = cc
+can_go_on cells names (commands.Publish cell x) b s have ok within =
+    let r = publish_checked cells names cell x b ok in
+    let h = has_place cells cell r.0 r.2 in
+    let p = collection_of names s x r.1 have r.3 in
     record {
-      has = local_effect o (commands.Let y x op from) (let_told y p (plain q.0 p));
-      is = ap (λ v. option_map (local_effect o (commands.Let y x op from)) (v >>= λ r. op_from names op from >>= λ t. Some (let_told y r (plain t r)))) v.of.is
-          ∙ ap (λ v. option_map (local_effect o (commands.Let y x op from)) (v >>= λ t. Some (let_told y p (plain t p)))) q.1;
-      allowed = both_right (b && f) w ready;
-      there = refl;
-      ordinal = refl;
-      suits = tt;
-      known = λ after new. known_kind locals y (local_kind locals x) names after v.kind (edited p (plain q.0 p)) known v.is (edited_kind p (plain q.0 p) (plain_keeps q.0 p) ∙ v.of.kind) new;
+      can = record { value = p.value; is = at_collection s x r.1 p; kind = h.kind ∙ ap (λ (k : Kind). Some k) (kind_same r.0 r.1 r.4 ∙ sym p.kind) };
+      kinds = λ after leaves. have_same names s after b have leaves r.5;
     }
-acts o (commands.Rekey y x comparer) locals cells names known have ready =
-    let k = some_of (rekeyed_name (local_kind locals x) comparer) ready in
-    let v = value_at locals names x known (rekeyed_there (local_kind locals x) comparer ready) in
-    let p = v.of.value in
-    let at : with_comparer p.kind comparer ≡ Some k.0 = ap (λ a. with_comparer a comparer) v.of.kind ∙ ap (λ a. rekeyed_name a comparer) (sym v.is) ∙ k.1 in
+can_go_on cells names (commands.New x kind src from) b s have ok within =
+    let r = new_checked cells names x kind src from b ok in
+    let vs = source_there names s (items_of_kind kind) src from have r.0 in
+    let g = new_given x kind (made kind vs.0) s in
+    let is : local (commands.New x kind src from) s ≡ Some g = ap (λ v. v >>= λ us. Some (new_given x kind (made kind us) s)) vs.1 in
+    let n = new_binds x kind vs.0 s (made kind vs.0) refl in
     record {
-      has = local_effect o (commands.Rekey y x comparer) (rekey_told y p k.0 (rekeyed_by comparer k.0 p));
-      is = ap (λ v. option_map (local_effect o (commands.Rekey y x comparer)) (v >>= λ r. rekey_of y r comparer)) v.of.is
-          ∙ ap (λ w. option_map (local_effect o (commands.Rekey y x comparer)) (option_map (λ kind. rekey_told y p kind (rekeyed_by comparer kind p)) w)) at;
-      allowed = refl;
-      there = refl;
-      ordinal = refl;
-      suits = tt;
-      known = λ after new.
-          let n = rekey_binds y p k.0 names after (has_comparer p.kind comparer) (rekeyed k.0 p.values) (own_comparer p.kind comparer k.0 at) (rekeyed_kind k.0 p.values) new in
-          known_kind locals y (rekeyed_name (local_kind locals x) comparer) names after k.0 n.value known k.1 n.same n.binds;
+      can = record { built = within; given = g; is = is };
+      kinds = λ after leaves. have_bound names s after x kind n.value b have n.kind (after_answer (commands.New x kind src from) s after g is leaves ∙ n.binds) r.1;
+    }
+can_go_on cells names (commands.Let y x op from) b s have ok within =
+    let r = let_checked cells names y x op from b ok in
+    let p = collection_of names s x r.0 have r.1 in
+    let o = op_there names s (items_of_op op) op from have r.3 in
+    let g = let_given y p.value (plain o.0 p.value) s in
+    let is : local (commands.Let y x op from) s ≡ Some g =
+    ap (λ v. v >>= λ q. op_from s op from >>= λ t. Some (let_given y q (plain t q) s)) (at_collection s x r.0 p) ∙ ap (λ v. v >>= λ t. Some (let_given y p.value (plain t p.value) s)) o.1 in
+    record {
+      can = record { built = within; given = g; is = is };
+      kinds = λ after leaves. have_bound names s after y r.0 (edited p.value (plain o.0 p.value)) b have (edited_kind p.value (plain o.0 p.value) (plain_keeps o.0 p.value) ∙ p.kind)
+          (after_answer (commands.Let y x op from) s after g is leaves) r.4;
+    }
+can_go_on cells names (commands.Rekey y x comparer) b s have ok within =
+    let r = rekey_checked cells names y x comparer b ok in
+    let p = collection_of names s x r.0 have r.2 in
+    let l = r.1 in
+    let at : with_comparer p.value.kind comparer ≡ Some l = ap (λ k. with_comparer k comparer) p.kind ∙ r.3 in
+    let g = rekey y p.value comparer l s in
+    let is : local (commands.Rekey y x comparer) s ≡ Some g =
+    ap (λ v. v >>= λ q. with_comparer q.kind comparer >>= λ k. Some (rekey y q comparer k s)) (at_collection s x r.0 p) ∙ ap (λ v. v >>= λ k. Some (rekey y p.value comparer k s)) at in
+    let n = rekeyed_binds y p.value l s (has_comparer p.value.kind comparer) (rekeyed l p.value.values) (λ own. by (sym (own_comparer p.value.kind comparer own) ∙ at)) (rekeyed_kind l p.value.values) in
+    record {
+      can = record { built = refl; given = g; is = is };
+      kinds = λ after leaves. have_bound names s after y l n.value b have n.kind (after_answer (commands.Rekey y x comparer) s after g is leaves ∙ n.binds) r.4;
     }
   where
-    rekeyed_there : (kind : Option Kind) (c : Comparer) → is_some (rekeyed_name kind c) ≡ true → is_some kind ≡ true
-    rekeyed_there None c e = e
-    rekeyed_there (Some k) c e = refl
-acts o (commands.Ask x query from) locals cells names known have ready =
-    let b = is_bound locals x in
-    let f = is_source locals from in
-    let w = are_within (query_values query) in
-    let p = some_of (value_of names x) (value_there locals names x known (both_left b f (both_left (b && f) w ready))) in
-    let q = some_of (query_from names query from) (query_there locals names query from known (both_right b f (both_left (b && f) w ready))) in
+    by : {k l : Kind} → Some k ≡ Some l → k ≡ l
+    by e = cc
+can_go_on cells names (commands.Ask x query from) b s have ok within =
+    let r = ask_checked cells names x query from b ok in
+    let p = contents_plain names s x r.0 have r.1 in
+    let q = query_there names s Elements query from have r.3 in
+    let g = gives (answer q.0 p.value) s in
+    let is : local (commands.Ask x query from) s ≡ Some g =
+    ap (λ v. v >>= λ c. query_from s query from >>= λ t. ask_given t c s) p.bound ∙ ap (λ v. v >>= λ t. ask_given t (collection p.value) s) q.1 in
     record {
-      has = local_effect o (commands.Ask x query from) (only_told (answer q.0 p.0));
-      is = ap (λ v. option_map (local_effect o (commands.Ask x query from)) (v >>= λ r. query_from names query from >>= λ t. Some (only_told (answer t r)))) p.1
-          ∙ ap (λ v. option_map (local_effect o (commands.Ask x query from)) (v >>= λ t. Some (only_told (answer t p.0)))) q.1;
-      allowed = both_right (b && f) w ready;
-      there = refl;
-      ordinal = refl;
-      suits = tt;
-      known = known_as locals names known;
+      can = record { built = within; given = g; is = is };
+      kinds = λ after leaves. have_same names s after b have (after_answer (commands.Ask x query from) s after g is leaves) r.4;
     }
-acts o (commands.Show x) locals cells names known have ready =
-    let p = some_of (value_of names x) (value_there locals names x known ready) in
+can_go_on cells names (commands.Show x) b s have ok within =
+    let r = show_checked cells names x b ok in
+    let p = contents_plain names s x r.0 have r.1 in
+    let g = gives (shown p.value.values) s in
+    let is : local (commands.Show x) s ≡ Some g = ap (λ v. v >>= λ q. Some (gives (shown q.values) s)) (at_contents s x r.0 p) in
     record {
-      has = local_effect o (commands.Show x) (only_told (shown p.0.values));
-      is = ap (λ v. option_map (local_effect o (commands.Show x)) (v >>= λ r. Some (only_told (shown r.values)))) p.1;
-      allowed = refl;
-      there = refl;
-      ordinal = refl;
-      suits = tt;
-      known = known_as locals names known;
+      can = record { built = refl; given = g; is = is };
+      kinds = λ after leaves. have_same names s after b have (after_answer (commands.Show x) s after g is leaves) r.2;
     }
-acts o _ locals cells names known have ready = cc
+can_go_on cells names _ b s have ok within = absurd cc
+
+-- ---- parts
+
+can_do_all : (cells : List CellDecl) (cs : List Command) (names : Bindings Class) (s : Locals) → HaveKinds names s → AreReady cells names cs → CanDoAll cells cs s
+can_do_all cells [] names s have ready = tt
+can_do_all cells (c ∷ cs) names s have ready =
+    let is = ready.0 in
+    let g = can_go_on cells names c is.bound s have (check_binding cells names c is.bound is.checked) is.within in
+    (g.can, λ after leaves. can_do_all cells cs (with_bound names is.bound) after (g.kinds after leaves) ready.1)
+
+no_names : HaveKinds [] no_locals
+no_names x class e = absurd cc
+
+pub can_do_parts : (cells : List CellDecl) (parts : List Part) → AllByRecursion (λ p. AreReady cells [] p.commands) parts → AllByRecursion (λ p. CanDoAll cells p.commands no_locals) parts
+can_do_parts cells [] all = tt
+can_do_parts cells (p ∷ parts) all = (can_do_all cells p.commands [] no_locals no_names all.0, can_do_parts cells parts all.1)

@@ -3,7 +3,7 @@ ghost use Rattle.std.specs.Prelude.{◌≡◌, ◌↔◌, IsTrue};
 ghost use Rattle.immrun_core.specs.Outside.{source_ends, sink_ends};
 ghost use Rattle.immrun_core.specs.Top.{IsRun, Ended, Completes, Told};
 
-use crate::complaint::complain;
+use crate::fault_line::report_status;
 use crate::run::run_one;
 use crate::status::Status;
 use crate::streams::{ReadStop, read_all, write_all};
@@ -35,7 +35,7 @@ fn is_run(words: &[Word]) -> bool
 }
 
 // Reads a script, runs it and writes its report.
-fn serve<Q: Source, S: Sink>(alloc: Global, source: &mut Q, sink: &mut S) -> Status
+fn run_script<Q: Source, S: Sink>(alloc: Global, source: &mut Q, sink: &mut S) -> Status
     ensures ended { Ended (source_ends Q.left Q.faults source.old source.new) (sink_ends S.taken S.faults sink.old sink.new) result }
     ensures known { result ≡ Status.Usage → ⊥ }
 {
@@ -68,12 +68,17 @@ fn serve<Q: Source, S: Sink>(alloc: Global, source: &mut Q, sink: &mut S) -> Sta
 }
 
 // Does what the words say, and tells nobody.
-fn obey<Q: Source, S: Sink>(alloc: Global, words: &[Word], source: &mut Q, sink: &mut S) -> Status
+fn dispatch<Q: Source, S: Sink>(
+    alloc: Global,
+    words: &[Word],
+    source: &mut Q,
+    sink: &mut S,
+) -> Status
     ensures ended { Ended (source_ends Q.left Q.faults source.old source.new) (sink_ends S.taken S.faults sink.old sink.new) result }
     ensures usage { (result ≡ Status.Usage) ↔ ¬ IsRun words.now }
 {
     if is_run(words) {
-        serve(alloc, source, sink)
+        run_script(alloc, source, sink)
     } else {
         Status::Usage
     }
@@ -101,7 +106,7 @@ pub fn top<R: Threads + Wait + Sync, Q: Source, S: Sink, E: Sink, G: Gate>(
     // What is told of the end.
     ensures told { Told (sink_ends E.taken E.faults faults.old faults.new) result }
 {
-    let status = obey(alloc, words, source, sink);
-    complain(faults, status);
+    let status = dispatch(alloc, words, source, sink);
+    report_status(faults, status);
     status
 }

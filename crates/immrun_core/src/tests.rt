@@ -1,5 +1,6 @@
 use super::*;
-use imm_base::{FreeGate, MemSink, MemSource};
+use imm_base::{FreeGate, MemSink, MemSource, Memory};
+use plain_model::{Listed, Report};
 use std::alloc::Global;
 use std::sync::Wait;
 use std::test::Fail;
@@ -38,7 +39,7 @@ const RUN: Call = Call {
     fault_room: 1000,
 };
 
-pub(crate) fn words_of(alloc: Global, texts: &[&str]) -> Result<Vec<Word>, Fail> {
+fn words_of(alloc: Global, texts: &[&str]) -> Result<Vec<Word>, Fail> {
     let mut words = Vec::new(alloc);
     for text in texts {
         words.push(match Text64::from_text(text) {
@@ -255,4 +256,37 @@ fn a_word_has_at_most_64_bytes(rt: HostRuntime) {
     let short = Text64::from_text(&text[..64]);
     assert!(rt; matches!(&short, Some(word) if word.as_bytes() == &text.as_bytes()[..64]));
     assert!(rt; Text64::from_text(text).is_none());
+}
+
+fn eight_workers(alloc: Global) -> Result<Report, Memory> {
+    let mut locals = Listed::new(alloc);
+    for _ in 0..8 {
+        locals.push(Listed::new(alloc))?;
+    }
+    Ok(Report {
+        workers: 8,
+        cells: Listed::new(alloc),
+        locals,
+    })
+}
+
+const EIGHT: &[u8] = b"immrun report 1
+workers 8
+worker 1
+worker 2
+worker 3
+worker 4
+worker 5
+worker 6
+worker 7
+worker 8
+end
+";
+
+#[test]
+fn a_report_has_a_list_for_each_of_eight_workers(rt: HostRuntime) -> Result<(), Fail> {
+    let report = eight_workers(rt.alloc())?;
+    let text = report_text(rt.alloc(), &report)?;
+    assert_eq!(rt; text.as_slice(), EIGHT);
+    Ok(())
 }

@@ -3,11 +3,14 @@
 #![tactic(auto)]
 
 use avl_node::Tree;
-use imm_base::{Edit, LIMIT, Val};
+use imm_base::{Edit, Val};
 use imm_list::{ImmList, ListFault};
 use std::alloc::Global;
 use std::time::{CpuClock, Duration};
 use std::{env, io};
+
+// How many elements a list has.
+const COUNT: u32 = 16_384;
 
 const READS: u32 = 100_000;
 
@@ -21,7 +24,7 @@ fn value_of(number: u32) -> Val {
 // Each value added behind the others.
 fn appended(alloc: Global) -> Result<ImmList<Val>, ListFault> {
     let mut list = ImmList::new();
-    for number in 0..LIMIT {
+    for number in 0..COUNT {
         if let Edit::New(longer) = list.add(alloc, value_of(number))? {
             list = longer;
         }
@@ -32,7 +35,7 @@ fn appended(alloc: Global) -> Result<ImmList<Val>, ListFault> {
 // Each value put in the middle of the others.
 fn put_in_the_middle(alloc: Global) -> Result<ImmList<Val>, ListFault> {
     let mut list = ImmList::new();
-    for number in 0..LIMIT {
+    for number in 0..COUNT {
         if let Edit::New(longer) = list.insert(alloc, number / 2, value_of(number))? {
             list = longer;
         }
@@ -130,11 +133,11 @@ fn show_count(rt: &impl Print, name: &str, made: Result<u64, ListFault>) -> io::
 fn measure_edits(rt: &(impl Print + CpuClock), alloc: Global, is_timed: bool) -> io::Result<()> {
     let start = rt.thread_cpu_time()?;
     let list = appended(alloc);
-    show_time(rt, is_timed, "add", start, LIMIT)?;
+    show_time(rt, is_timed, "add", start, COUNT)?;
     show_list(rt, "add", list)?;
     let start = rt.thread_cpu_time()?;
     let list = put_in_the_middle(alloc);
-    show_time(rt, is_timed, "insert", start, LIMIT)?;
+    show_time(rt, is_timed, "insert", start, COUNT)?;
     show_list(rt, "insert", list)
 }
 

@@ -191,13 +191,13 @@ map_kept cmp same keep ops.Clear m is = clear_map cmp same m
 
 -- ---- collections
 
-by_order : (order : ValOrder) → CanKeep (order_cmp order) (same_of (kinds.SSet order))
+pub by_order : (order : ValOrder) → CanKeep (order_cmp order) (same_of (kinds.SSet order))
 by_order order = keep_by_order (order_cmp order) (order_total order)
 
-by_equality : (eq : ValEq) → CanKeep val_cmp (eq_same eq)
+pub by_equality : (eq : ValEq) → CanKeep val_cmp (eq_same eq)
 by_equality eq = keep_by_equality val_cmp (eq_same eq) val_cmp_total val_exact (eq_equivalence eq)
 
-abbrev of : Kind → Values → Plain
+abbrev pub of : Kind → Values → Plain
 of kind vs = record { kind = kind; values = vs }
 
 from_list : (kind : Kind) (vs : Values) (P : List Val → Type 0) (g : Gives Val (List Val)) → ((xs : List Val) → P xs → IsPlain (of kind (values.List xs))) → IfNew {V = Val} g P → IfChanged (of_list (of kind vs) g) IsPlain
@@ -214,27 +214,35 @@ stays_of : (kind : Kind) (vs : Values) (op : PlainOp) → IsPlain (of kind vs) �
 stays_of kinds.List (values.List xs) op is = from_list kinds.List (values.List xs) IsShort (list_op op xs) (λ ys h. record { fits = h; kept = tt }) (list_short op xs is.fits)
 stays_of kinds.List (values.Pairs ps) op is = absurd is.kept
 stays_of kinds.List (values.Seq first n) op is = absurd is.kept
+stays_of kinds.List values.Unset op is = absurd is.kept
 stays_of kinds.Array (values.List xs) op is = from_list kinds.Array (values.List xs) IsShort (list_op op xs) (λ ys h. record { fits = h; kept = tt }) (list_short op xs is.fits)
 stays_of kinds.Array (values.Pairs ps) op is = absurd is.kept
 stays_of kinds.Array (values.Seq first n) op is = absurd is.kept
+stays_of kinds.Array values.Unset op is = absurd is.kept
 stays_of kinds.Stack (values.List xs) op is = from_list kinds.Stack (values.List xs) IsShort (stack_op op xs) (λ ys h. record { fits = h; kept = tt }) (stack_short op xs is.fits)
 stays_of kinds.Stack (values.Pairs ps) op is = absurd is.kept
 stays_of kinds.Stack (values.Seq first n) op is = absurd is.kept
+stays_of kinds.Stack values.Unset op is = absurd is.kept
 stays_of kinds.Queue (values.List xs) op is = from_list kinds.Queue (values.List xs) IsShort (queue_op op xs) (λ ys h. record { fits = h; kept = tt }) (queue_short op xs is.fits)
 stays_of kinds.Queue (values.Pairs ps) op is = absurd is.kept
 stays_of kinds.Queue (values.Seq first n) op is = absurd is.kept
+stays_of kinds.Queue values.Unset op is = absurd is.kept
 stays_of (kinds.SSet order) (values.List xs) op is = from_list (kinds.SSet order) (values.List xs) (IsPlainSet (order_cmp order) (same_of (kinds.SSet order))) (set_op (order_cmp order) (same_of (kinds.SSet order)) op xs) (λ ys h. record { fits = h.fits; kept = h.set }) (set_kept (order_cmp order) (same_of (kinds.SSet order)) (by_order order) op xs (record { fits = is.fits; set = is.kept }))
 stays_of (kinds.SSet order) (values.Pairs ps) op is = absurd is.kept
 stays_of (kinds.SSet order) (values.Seq first n) op is = absurd is.kept
+stays_of (kinds.SSet order) values.Unset op is = absurd is.kept
 stays_of (kinds.HSet eq) (values.List xs) op is = from_list (kinds.HSet eq) (values.List xs) (IsPlainSet val_cmp (eq_same eq)) (set_op val_cmp (eq_same eq) op xs) (λ ys h. record { fits = h.fits; kept = h.set }) (set_kept val_cmp (eq_same eq) (by_equality eq) op xs (record { fits = is.fits; set = is.kept }))
 stays_of (kinds.HSet eq) (values.Pairs ps) op is = absurd is.kept
 stays_of (kinds.HSet eq) (values.Seq first n) op is = absurd is.kept
+stays_of (kinds.HSet eq) values.Unset op is = absurd is.kept
 stays_of (kinds.SMap order) (values.Pairs m) op is = from_pairs (kinds.SMap order) (values.Pairs m) (IsPlainMap (order_cmp order) (same_of (kinds.SSet order))) (map_op (order_cmp order) (same_of (kinds.SSet order)) op m) (λ n h. record { fits = h.fits; kept = h.set }) (map_kept (order_cmp order) (same_of (kinds.SSet order)) (by_order order) op m (record { fits = is.fits; set = is.kept }))
 stays_of (kinds.SMap order) (values.List xs) op is = absurd is.kept
 stays_of (kinds.SMap order) (values.Seq first n) op is = absurd is.kept
+stays_of (kinds.SMap order) values.Unset op is = absurd is.kept
 stays_of (kinds.Dict eq) (values.Pairs m) op is = from_pairs (kinds.Dict eq) (values.Pairs m) (IsPlainMap val_cmp (eq_same eq)) (map_op val_cmp (eq_same eq) op m) (λ n h. record { fits = h.fits; kept = h.set }) (map_kept val_cmp (eq_same eq) (by_equality eq) op m (record { fits = is.fits; set = is.kept }))
 stays_of (kinds.Dict eq) (values.List xs) op is = absurd is.kept
 stays_of (kinds.Dict eq) (values.Seq first n) op is = absurd is.kept
+stays_of (kinds.Dict eq) values.Unset op is = absurd is.kept
 
 pub stays_plain : StaysPlain
 stays_plain op p is = stays_of p.kind p.values op is

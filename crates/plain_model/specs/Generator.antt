@@ -16,6 +16,7 @@ use Rattle.plain_model.specs.declared.report.CellDecl.{CellDecl}
 use Rattle.plain_model.specs.declared.report.CellReport.{CellReport}
 use Rattle.plain_model.specs.declared.report.Part.{Part}
 use Rattle.plain_model.specs.declared.report.Script.{Script}
+use Rattle.plain_model.specs.declared.report.Version.TheVariants as versions
 use Rattle.plain_model.specs.declared.report.Report.{Report}
 use Rattle.plain_model.specs.Plain.{count}
 use Rattle.plain_model.specs.Frozen.{numbers_from}
@@ -49,7 +50,7 @@ generated_part n p = record { commands = map (generated_command n p) (numbers_fr
 
 -- four parts of 4,000 commands
 abbrev pub generated : ℕ → Script
-generated n = record { version = 1; cells = generated_cells; parts = map (generated_part n) (numbers_from 0 4) }
+generated n = record { version = versions.One; cells = generated_cells; parts = map (generated_part n) (numbers_from 0 4) }
 
 -- ---- its summary
 

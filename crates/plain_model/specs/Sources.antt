@@ -37,3 +37,25 @@ query_values (queries.ProperSuperset src) = Some src
 query_values (queries.Overlaps src) = Some src
 query_values (queries.SetEquals src) = Some src
 query_values _ = None
+
+-- the operation and the question on other values, where they take values
+abbrev pub op_with_values : PlainOp → Values → PlainOp
+op_with_values (ops.AddRange src) vs = ops.AddRange vs
+op_with_values (ops.InsertRange i src) vs = ops.InsertRange i vs
+op_with_values (ops.Union src) vs = ops.Union vs
+op_with_values (ops.Intersect src) vs = ops.Intersect vs
+op_with_values (ops.Except src) vs = ops.Except vs
+op_with_values (ops.SymExcept src) vs = ops.SymExcept vs
+op_with_values (ops.AddPairs src) vs = ops.AddPairs vs
+op_with_values (ops.SetPairs src) vs = ops.SetPairs vs
+op_with_values (ops.RemoveKeys src) vs = ops.RemoveKeys vs
+op_with_values op vs = op
+
+abbrev pub query_with_values : Query → Values → Query
+query_with_values (queries.Subset src) vs = queries.Subset vs
+query_with_values (queries.Superset src) vs = queries.Superset vs
+query_with_values (queries.ProperSubset src) vs = queries.ProperSubset vs
+query_with_values (queries.ProperSuperset src) vs = queries.ProperSuperset vs
+query_with_values (queries.Overlaps src) vs = queries.Overlaps vs
+query_with_values (queries.SetEquals src) vs = queries.SetEquals vs
+query_with_values query vs = query

@@ -1,4 +1,4 @@
-//! Each call that may want memory is done with ample memory.
+//! What may want memory is done once with ample memory.
 use crate::*;
 use imm_base::{Dup, Memory, Text24, Val};
 use std::alloc::{AllocError, Global};
@@ -9,111 +9,94 @@ fn two() -> Values {
     Values::Seq { first: 4, count: 2 }
 }
 
-fn list_of_two() -> Plain {
-    Plain {
-        kind: Kind::List,
-        values: two(),
-    }
+fn one(alloc: Global, value: i64) -> Result<Listed<Val>, Memory> {
+    Listed::new(alloc).with(Val::Int(value))
 }
 
-fn written(alloc: Global, command: &Command) -> Result<String, AllocError> {
+#[test]
+fn lists_and_pairs_are_copied(rt: HostRuntime) -> Result<(), Fail> {
+    let numbers = one(rt.alloc(), 1)?.dup(rt.alloc())?.into_vec();
+    assert_eq!(rt; numbers.as_slice(), [Val::Int(1)].as_slice());
+    let mut pairs = Listed::new(rt.alloc());
+    pairs.push((Val::Int(1), Val::Int(2)))?;
+    let plain = Plain {
+        kind: Kind::Stack,
+        values: Values::Pairs(pairs),
+    };
+    assert_eq!(rt; plain.dup(rt.alloc())?.values.count(), 1);
+    Ok(())
+}
+
+#[test]
+fn names_are_bound(rt: HostRuntime) -> Result<(), Fail> {
+    let name = Text24::from_bytes(b"x").ok_or("a name")?;
+    let mut names = Names::new(rt.alloc());
+    names.bind(name, 1_u32)?;
+    assert_eq!(rt; names.get(&name), Some(&1));
+    Ok(())
+}
+
+/// A script with a cell of arrays, and one part of one command.
+fn script(alloc: Global, name: Text24) -> Result<Script, Memory> {
+    let cells = Listed::new(alloc).with(CellDecl {
+        name,
+        kind: Kind::Array,
+        values: Values::Unset,
+    })?;
+    let commands = Listed::new(alloc).with(Command::Update(name, PlainOp::AddRange(two())))?;
+    let parts = Listed::new(alloc).with(Part { commands })?;
+    Ok(Script {
+        version: Version::Two,
+        cells,
+        parts,
+    })
+}
+
+fn put_part(text: &mut String, part: &Part) -> Result<(), AllocError> {
+    for command in part.commands.as_slice() {
+        put_command(text, command)?;
+    }
+    Ok(())
+}
+
+fn written(alloc: Global, script: &Script) -> Result<String, AllocError> {
     let mut text = String::new(alloc);
-    put_command(&mut text, command)?;
+    for cell in script.cells.as_slice() {
+        put_decl(&mut text, cell)?;
+    }
+    for part in script.parts.as_slice() {
+        put_part(&mut text, part)?;
+    }
     Ok(text)
 }
 
-fn copy_written(alloc: Global, command: &Command) -> Result<String, Memory> {
-    let copy = command.dup(alloc)?;
-    written(alloc, &copy).map_err(Memory::from)
-}
-
-fn updated(cell: Text24) -> Command {
-    Command::Update(cell, PlainOp::AddRange(two()))
-}
-
-fn asked(name: Text24) -> Command {
-    Command::Ask(name, Query::Subset(two()), None)
-}
-
-fn made(name: Text24) -> Command {
-    Command::New(name, Kind::List, two(), None)
-}
-
-fn update_copied(alloc: Global, name: Text24) -> Result<String, Memory> {
-    copy_written(alloc, &updated(name))
-}
-
-fn question_copied(alloc: Global, name: Text24) -> Result<String, Memory> {
-    copy_written(alloc, &asked(name))
-}
-
-fn new_list_copied(alloc: Global, name: Text24) -> Result<String, Memory> {
-    copy_written(alloc, &made(name))
-}
-
 #[test]
-fn commands_are_copied_and_written(rt: HostRuntime) -> Result<(), Fail> {
+fn scripts_are_copied_and_written(rt: HostRuntime) -> Result<(), Fail> {
     let name = Text24::from_bytes(b"A").ok_or("a name")?;
-    assert_eq!(rt;
-        update_copied(rt.alloc(), name)?.as_str(),
-        "update A addrange seq 4 2"
-    );
-    assert_eq!(rt;
-        question_copied(rt.alloc(), name)?.as_str(),
-        "ask A subset seq 4 2"
-    );
-    assert_eq!(rt;
-        new_list_copied(rt.alloc(), name)?.as_str(),
-        "new A list seq 4 2"
-    );
+    let copy = script(rt.alloc(), name)?.dup(rt.alloc())?;
+    let text = written(rt.alloc(), &copy)?;
+    assert_eq!(rt; text.as_str(), "cell A array -update A addrange seq 4 2");
     Ok(())
 }
 
-#[test]
-fn pairs_are_copied(rt: HostRuntime) -> Result<(), Fail> {
-    let mut pairs = Listed::new(rt.alloc());
-    pairs.push((Val::Int(1), Val::Int(2)))?;
-    let copy = Values::Pairs(pairs).dup(rt.alloc())?;
-    assert_eq!(rt; copy.count(), 1);
-    Ok(())
-}
-
-#[test]
-fn lists_grow_and_are_copied(rt: HostRuntime) -> Result<(), Fail> {
-    let list = Listed::from_vec(Vec::new(rt.alloc())).with(Val::Int(1))?;
-    let numbers = list.dup(rt.alloc())?.into_vec();
-    assert_eq!(rt; numbers.as_slice(), [Val::Int(1)].as_slice());
-    Ok(())
-}
-
-/// A publication, as a line of a history.
-fn published() -> Line {
-    Line {
+/// An array in place of an unset one, with a long array in the answer.
+fn exchange(alloc: Global) -> Result<Line, Memory> {
+    let call = PlainCall::CompareExchange(one(alloc, 3)?, Values::Unset);
+    let first = one(alloc, 1)?;
+    Ok(Line {
         position: 1,
-        caller: 2,
-        ordinal: 3,
-        call: PlainCall::Publish(list_of_two()),
-        reply: Reply::Flag(true),
+        caller: 1,
+        ordinal: 1,
+        call,
+        reply: Reply::Shown(Shown { count: 20, first }),
         installed: true,
-    }
+    })
 }
 
-fn copied_caller(alloc: Global, line: &Line) -> Result<u32, Memory> {
-    let copy = line.dup(alloc)?;
-    Ok(copy.caller)
-}
-
-#[test]
-fn lines_are_copied(rt: HostRuntime) -> Result<(), Fail> {
-    let line = published();
-    assert_eq!(rt; copied_caller(rt.alloc(), &line)?, 2);
-    Ok(())
-}
-
-fn answered(name: Text24) -> LocalLine {
+fn question(name: Text24) -> LocalLine {
     LocalLine {
-        ordinal: 4,
-        command: Command::Show(name),
+        ordinal: 2,
+        command: Command::Ask(name, Query::Subset(two()), None),
         answer: Answer::Shown {
             count: 2,
             first: two(),
@@ -121,102 +104,87 @@ fn answered(name: Text24) -> LocalLine {
     }
 }
 
-fn copied_ordinal(alloc: Global, line: &LocalLine) -> Result<u64, Memory> {
-    let copy = line.dup(alloc)?;
-    Ok(copy.ordinal)
-}
-
-fn ordinal_of_answered(alloc: Global, name: Text24) -> Result<u64, Memory> {
-    copied_ordinal(alloc, &answered(name))
-}
-
-#[test]
-fn local_lines_are_copied(rt: HostRuntime) -> Result<(), Fail> {
-    let name = Text24::from_bytes(b"x").ok_or("a name")?;
-    assert_eq!(rt; ordinal_of_answered(rt.alloc(), name)?, 4);
-    Ok(())
-}
-
-fn declared(name: Text24) -> CellDecl {
+fn unset(name: Text24) -> CellDecl {
     CellDecl {
         name,
-        kind: Kind::List,
-        values: two(),
+        kind: Kind::Array,
+        values: Values::Unset,
     }
 }
 
-fn decl_written(alloc: Global, cell: &CellDecl) -> Result<String, AllocError> {
-    let mut text = String::new(alloc);
-    put_decl(&mut text, cell)?;
-    Ok(text)
-}
-
-fn decl_copy_written(alloc: Global, cell: &CellDecl) -> Result<String, Memory> {
-    let copy = cell.dup(alloc)?;
-    decl_written(alloc, &copy).map_err(Memory::from)
-}
-
-#[test]
-fn declarations_are_copied_and_written(rt: HostRuntime) -> Result<(), Fail> {
-    let name = Text24::from_bytes(b"A").ok_or("a name")?;
-    let text = decl_copy_written(rt.alloc(), &declared(name))?;
-    assert_eq!(rt; text.as_str(), "cell A list seq 4 2");
-    Ok(())
-}
-
-fn one_cell(alloc: Global, name: Text24) -> Result<Listed<CellDecl>, Memory> {
-    Listed::new(alloc).with(declared(name))
-}
-
-fn idle_part(alloc: Global) -> Result<Listed<Part>, Memory> {
-    Listed::new(alloc).with(Part {
-        commands: Listed::new(alloc),
-    })
-}
-
-/// A script with one cell, and one part with nothing to do.
-fn script(alloc: Global, name: Text24) -> Result<Script, Memory> {
-    let cells = one_cell(alloc, name)?;
-    let parts = idle_part(alloc)?;
-    Ok(Script {
-        version: 1,
-        cells,
-        parts,
-    })
-}
-
-fn copied_parts(alloc: Global, script: &Script) -> Result<usize, Memory> {
-    let copy = script.dup(alloc)?;
-    Ok(copy.parts.as_slice().len())
-}
-
-#[test]
-fn scripts_are_copied(rt: HostRuntime) -> Result<(), Fail> {
-    let name = Text24::from_bytes(b"A").ok_or("a name")?;
-    let script = script(rt.alloc(), name)?;
-    assert_eq!(rt; copied_parts(rt.alloc(), &script)?, 1);
-    Ok(())
-}
-
-/// A report of workers that have nothing to do.
-fn idle(alloc: Global, workers: u32) -> Result<Report, Memory> {
-    let mut locals = Listed::new(alloc);
-    for _ in 0..workers {
-        locals.push(Listed::new(alloc))?;
+fn unset_array() -> Plain {
+    Plain {
+        kind: Kind::Array,
+        values: Values::Unset,
     }
-    Ok(Report {
-        workers,
+}
+
+/// A copy of a line, so that the line itself goes in one place.
+fn copied_question(alloc: Global, name: Text24) -> Result<LocalLine, Memory> {
+    let line = question(name);
+    line.dup(alloc)
+}
+
+fn copied_exchange(alloc: Global) -> Result<Line, Memory> {
+    let line = exchange(alloc)?;
+    line.dup(alloc)
+}
+
+fn history(alloc: Global) -> Result<Listed<Line>, Memory> {
+    Listed::new(alloc).with(copied_exchange(alloc)?)
+}
+
+fn cell(alloc: Global, name: Text24) -> Result<CellReport, Memory> {
+    let lines = history(alloc)?;
+    Ok(CellReport {
+        cell: unset(name),
+        first: unset_array(),
+        lines,
+        last: unset_array(),
+    })
+}
+
+fn local_lines(alloc: Global, name: Text24) -> Result<Listed<LocalLine>, Memory> {
+    Listed::new(alloc).with(copied_question(alloc, name)?)
+}
+
+fn add_cell(alloc: Global, report: &mut Report, name: Text24) -> Result<(), Memory> {
+    let cell = cell(alloc, name)?;
+    report.cells.push(cell)
+}
+
+fn add_worker(alloc: Global, report: &mut Report, name: Text24) -> Result<(), Memory> {
+    let lines = local_lines(alloc, name)?;
+    report.locals.push(lines)
+}
+
+fn empty_report(alloc: Global) -> Report {
+    Report {
+        workers: 1,
         cells: Listed::new(alloc),
-        locals,
-    })
+        locals: Listed::new(alloc),
+    }
 }
 
+const WANTED: &[u8] = b"immrun report 1
+workers 1
+cell A array
+first default
+1 1.1 + compareexchange 1: 3 if default -> 20: 1 ..
+final default
+worker 1
+1.2 ask A subset seq 4 2 -> 2: seq 4 2
+end
+";
+
 #[test]
-fn a_report_is_written(rt: HostRuntime) -> Result<(), Fail> {
-    let report = idle(rt.alloc(), 3)?;
+fn lines_are_copied_and_reports_are_written(rt: HostRuntime) -> Result<(), Fail> {
+    let name = Text24::from_bytes(b"A").ok_or("a name")?;
+    let mut report = empty_report(rt.alloc());
+    add_cell(rt.alloc(), &mut report, name)?;
+    add_worker(rt.alloc(), &mut report, name)?;
     let bytes = report_text(rt.alloc(), &report)?;
-    let want: &[u8] = b"immrun report 1\nworkers 3\nworker 1\nworker 2\nworker 3\nend\n";
-    assert_eq!(rt; bytes.as_slice(), want);
+    assert_eq!(rt; bytes.as_slice(), WANTED);
     Ok(())
 }
 
@@ -224,15 +192,5 @@ fn a_report_is_written(rt: HostRuntime) -> Result<(), Fail> {
 fn sums_stay_within_64_bits(rt: HostRuntime) {
     for (old, number, sum) in [(1, 2, 3), (i64::MAX, 1, i64::MAX), (i64::MIN, -1, i64::MIN)] {
         assert_eq!(rt; Transform::Plus(number).on(&Val::Int(old)), Val::Int(sum));
-    }
-}
-
-#[test]
-fn the_greater_value_stays(rt: HostRuntime) {
-    for (old, new, greater) in [(1, 2, 2), (2, 1, 2), (-2, -1, -1)] {
-        assert_eq!(rt;
-            Transform::Max(Val::Int(new)).on(&Val::Int(old)),
-            Val::Int(greater)
-        );
     }
 }

@@ -1,11 +1,7 @@
-mod Bound
+pub mod Cells
+pub mod Checked
 mod Contents
-mod Cut
-mod Digits
 mod FirstLines
-mod Judgements
 mod LineByLine
-pub mod Listing
-mod Names
-pub mod Runs
-mod Within
+pub mod ReadyScripts
+mod Steps

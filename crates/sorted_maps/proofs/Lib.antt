@@ -1,4 +1,3 @@
+pub mod Added
 pub mod Ordinal
-pub mod Places
-pub mod Ranges
-pub mod Trees
+pub mod Placing

@@ -1,3 +1,3 @@
 pub mod Answers
 pub mod Ordered
-pub mod Rekeyed
+pub mod Placed

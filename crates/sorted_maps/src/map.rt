@@ -5,7 +5,7 @@ ghost use Rattle.sorted_maps.specs.Answers.{Answers};
 ghost use Rattle.sorted_maps.specs.Ordered.{KeysRise, entries};
 
 use avl_node::Tree;
-use imm_base::{Edit, Key, Memory, Order, Pair};
+use imm_base::{Edit, Item, Memory, Order, Pair};
 use std::marker::Model;
 
 /// A persistent map whose keys rise in its order: keys are same where the order calls them equal.
@@ -30,7 +30,7 @@ impl<K, V, O: Order<K>> Model for SortedMap<K, V, O> {
 }
 
 impl<K, V, O: Order<K>> SortedMap<K, V, O> {
-    /// The empty map.
+    /// The empty map. O(1).
     pub fn new(order: O) -> SortedMap<K, V, O>
         ensures pairs { result.pairs ≡ [] }
         ensures order { result.order ≡ order }
@@ -65,14 +65,14 @@ impl<K, V, O: Order<K>> SortedMap<K, V, O> {
         self.order
     }
 
-    /// How many pairs there are.
+    /// How many pairs there are. O(1).
     pub fn count(&self) -> u32
         ensures { result ≡ length self.now.pairs }
     {
         self.tree().count()
     }
 
-    /// An equal map that shares the nodes.
+    /// An equal map that shares the nodes. O(1).
     pub fn share(&self) -> Result<SortedMap<K, V, O>, Memory>
         ensures { IfOk result (λ map. map ≡ self.now) }
     {
@@ -81,8 +81,8 @@ impl<K, V, O: Order<K>> SortedMap<K, V, O> {
     }
 }
 
-impl<K: Key, V: Key, O: Order<K>> SortedMap<K, V, O> {
-    /// The empty map of the same order.
+impl<K: Item, V: Item, O: Order<K>> SortedMap<K, V, O> {
+    /// The empty map of the same order. O(1), besides the nodes that nobody shares.
     pub fn clear(&self) -> Edit<SortedMap<K, V, O>>
         ensures { Answers self.now.order (Ok result) (clear self.now.pairs) }
     {

@@ -1,15 +1,15 @@
 // Questions about a map.
-ghost use Rattle.std.specs.Prelude.{◌≡◌, ◌<◌, ◌≤◌, IfOk, length, map, true};
+ghost use Rattle.std.specs.Prelude.{◌≡◌, IfOk, MatchResult, map};
 ghost use Rattle.std.specs.List.{list_any};
 ghost use Rattle.std.specs.Option.{option_copied, option_map};
 ghost use Rattle.std.specs.Ordering.{eq_by_cmp};
 ghost use Rattle.imm_base.specs.Maps.{entry_of, has_key, has_pair, key_of, value_of};
-ghost use Rattle.avl_node.specs.Sides.{place_at};
 ghost use Rattle.sorted_maps.specs.Ordered.{KeysRise, entry};
+ghost use Rattle.sorted_maps.specs.Placed.{IsAbsentAt, IsAt};
 
 use crate::map::SortedMap;
 use avl_node::Probe;
-use imm_base::{Key, Memory, Order, Pair, Test};
+use imm_base::{Item, Memory, Order, Pair, Test};
 use std::alloc::Global;
 use std::cmp::Ordering;
 
@@ -42,32 +42,35 @@ impl<K, V: Eq> Test<Pair<K, V>> for ValueIs<'_, V> {
     }
 }
 
-impl<K: Key, V: Key, O: Order<K>> SortedMap<K, V, O> {
-    // The place of the first pair whose key is not less, and whether its key is same.
-    pub(crate) fn place(&self, key: &K) -> (u32, bool)
-        ensures place { result.0 ≡ place_at (λ e. O.order self.now.order e.0 key.now) self.now.pairs }
-        ensures found { result.1 ≡ has_key (eq_by_cmp (O.order self.now.order)) key.now self.now.pairs }
-        ensures within { result.0 ≤ length self.now.pairs }
-        ensures before_end { result.1 ≡ true → result.0 < length self.now.pairs }
+impl<K: Item, V: Item, O: Order<K>> SortedMap<K, V, O> {
+    // The place of the pair whose key is same, or the place that a pair of the key would have.
+    pub(crate) fn search(&self, key: &K) -> Result<u32, u32>
+        ensures { MatchResult result (λ i. IsAt (O.order self.now.order) key.now self.now.pairs i)
+            (λ i. IsAbsentAt (O.order self.now.order) key.now self.now.pairs i) }
     {
         let sought = Sought {
             key,
             order: self.order(),
         };
-        self.tree().find_at(&sought)
+        self.tree().search(&sought)
     }
 
     // The pair whose key is same.
+    #[tactic(auto, using(avl_node::proofs::Keys::seen))]
     fn pair(&self, key: &K) -> Option<&Pair<K, V>>
-        ensures { option_map entry (option_copied result) ≡ entry_of (eq_by_cmp (O.order self.now.order)) key.now self.now.pairs }
+        ensures { option_map entry (option_copied result) ≡ entry_of
+            (eq_by_cmp (O.order self.now.order)) key.now self.now.pairs }
     {
-        let (place, found) = self.place(key);
-        if found { self.tree().at(place) } else { None }
+        match self.search(key) {
+            Ok(place) => self.tree().at(place),
+            Err(_) => None,
+        }
     }
 
-    /// The value of the key, if it is present.
+    /// The value of the key, if it is present. O(log n).
     pub fn get(&self, key: &K) -> Option<&V>
-        ensures { option_copied result ≡ value_of (eq_by_cmp (O.order self.now.order)) key.now self.now.pairs }
+        ensures { option_copied result ≡ value_of
+            (eq_by_cmp (O.order self.now.order)) key.now self.now.pairs }
     {
         match self.pair(key) {
             Some(pair) => Some(&pair.value),
@@ -75,9 +78,10 @@ impl<K: Key, V: Key, O: Order<K>> SortedMap<K, V, O> {
         }
     }
 
-    /// The key as it is stored, if it is present.
+    /// The key as it is stored, if it is present. O(log n).
     pub fn get_key(&self, key: &K) -> Option<&K>
-        ensures { option_copied result ≡ key_of (eq_by_cmp (O.order self.now.order)) key.now self.now.pairs }
+        ensures { option_copied result ≡ key_of
+            (eq_by_cmp (O.order self.now.order)) key.now self.now.pairs }
     {
         match self.pair(key) {
             Some(pair) => Some(&pair.key),
@@ -89,13 +93,13 @@ impl<K: Key, V: Key, O: Order<K>> SortedMap<K, V, O> {
     pub(crate) fn has_key(&self, key: &K) -> bool
         ensures { result ≡ has_key (eq_by_cmp (O.order self.now.order)) key.now self.now.pairs }
     {
-        let (_, found) = self.place(key);
-        found
+        self.search(key).is_ok()
     }
 
     // Whether the key is present with this value.
     pub(crate) fn has_pair(&self, key: &K, value: &V) -> bool
-        ensures { result ≡ has_pair (eq_by_cmp (O.order self.now.order)) V.eq key.now value.now self.now.pairs }
+        ensures { result ≡ has_pair
+            (eq_by_cmp (O.order self.now.order)) V.eq key.now value.now self.now.pairs }
     {
         match self.get(key) {
             Some(old) => *old == *value,
@@ -103,14 +107,14 @@ impl<K: Key, V: Key, O: Order<K>> SortedMap<K, V, O> {
         }
     }
 
-    /// Whether some value equals this one.
+    /// Whether some value equals this one. O(n).
     pub fn contains_value(&self, value: &V) -> bool
         ensures { result ≡ list_any (λ e. V.eq e.1 value.now) self.now.pairs }
     {
-        self.tree().has(&ValueIs { value })
+        self.tree().any(&ValueIs { value })
     }
 
-    /// Copies of the keys, in the order of the map.
+    /// Copies of the keys, in the order of the map. O(n).
     pub fn keys(&self, alloc: Global) -> Result<Vec<K>, Memory>
         ensures { IfOk result (λ v. v.items ≡ map (λ e. e.0) self.now.pairs) }
     {
@@ -119,7 +123,7 @@ impl<K: Key, V: Key, O: Order<K>> SortedMap<K, V, O> {
         Ok(keys)
     }
 
-    /// Copies of the values, in the order of their keys.
+    /// Copies of the values, in the order of their keys. O(n).
     pub fn values(&self, alloc: Global) -> Result<Vec<V>, Memory>
         ensures { IfOk result (λ v. v.items ≡ map (λ e. e.1) self.now.pairs) }
     {
@@ -128,7 +132,7 @@ impl<K: Key, V: Key, O: Order<K>> SortedMap<K, V, O> {
         Ok(values)
     }
 
-    /// Copies of the pairs, in the order of the map.
+    /// Copies of the pairs, in the order of the map. O(n).
     pub fn to_vec(&self, alloc: Global) -> Result<Vec<(K, V)>, Memory>
         ensures pairs { IfOk result (λ v. v.items ≡ self.now.pairs) }
         ensures rise { KeysRise (O.order self.now.order) self.now.pairs }

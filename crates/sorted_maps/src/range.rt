@@ -6,18 +6,20 @@ ghost use Rattle.imm_base.specs.Maps.{add_all, add_over, has_key, has_pair, map_
 ghost use Rattle.sorted_maps.specs.Answers.{Answers, AnswersAdded};
 
 use crate::map::SortedMap;
-use imm_base::{Edit, Key, LIMIT, MapFault, Memory, Order};
+use imm_base::{Edit, Item, LIMIT, MapFault, Memory, Order};
 use std::alloc::Global;
 
-impl<K: Key, V: Key, O: Order<K>> SortedMap<K, V, O> {
+impl<K: Item, V: Item, O: Order<K>> SortedMap<K, V, O> {
     /// The map with the pairs added in order. A key that is present with another value refuses them
-    /// all, also one that an earlier of these pairs brought.
+    /// all, also one that an earlier of these pairs brought. O(m log n) for m pairs.
     pub fn add_range(
         &self,
         alloc: Global,
         pairs: &[(K, V)],
     ) -> Result<Edit<SortedMap<K, V, O>>, MapFault<V>>
-        ensures { Answers self.now.order result (map_add_all K.eq (O.order self.now.order) (eq_by_cmp (O.order self.now.order)) V.eq pairs.now self.now.pairs) }
+        ensures { Answers self.now.order result
+            (map_add_all K.eq (O.order self.now.order)
+            (eq_by_cmp (O.order self.now.order)) V.eq pairs.now self.now.pairs) }
     {
         let count = self.count();
         let map = self.with_added(alloc, pairs)?;
@@ -31,12 +33,15 @@ impl<K: Key, V: Key, O: Order<K>> SortedMap<K, V, O> {
     }
 
     /// The map with the pairs set in order. It stays as it is exactly where each pair is present.
+    /// O(m log n) for m pairs.
     pub fn set_items(
         &self,
         alloc: Global,
         pairs: &[(K, V)],
     ) -> Result<Edit<SortedMap<K, V, O>>, MapFault<V>>
-        ensures { Answers self.now.order result (map_set_all (O.order self.now.order) (eq_by_cmp (O.order self.now.order)) V.eq pairs.now self.now.pairs) }
+        ensures { Answers self.now.order result
+            (map_set_all (O.order self.now.order)
+            (eq_by_cmp (O.order self.now.order)) V.eq pairs.now self.now.pairs) }
     {
         let map = self.with_set(alloc, pairs)?;
         if map.count() > LIMIT {
@@ -50,13 +55,14 @@ impl<K: Key, V: Key, O: Order<K>> SortedMap<K, V, O> {
         }
     }
 
-    /// The map without the pairs of the keys.
+    /// The map without the pairs of the keys. O(m log n) for m keys.
     pub fn remove_range(
         &self,
         alloc: Global,
         keys: &[K],
     ) -> Result<Edit<SortedMap<K, V, O>>, MapFault<V>>
-        ensures { Answers self.now.order result (map_remove_all (eq_by_cmp (O.order self.now.order)) keys.now self.now.pairs) }
+        ensures { Answers self.now.order result
+            (map_remove_all (eq_by_cmp (O.order self.now.order)) keys.now self.now.pairs) }
     {
         if self.has_any(keys) {
             Ok(Edit::New(self.without_all(alloc, keys)?))
@@ -71,7 +77,9 @@ impl<K: Key, V: Key, O: Order<K>> SortedMap<K, V, O> {
         alloc: Global,
         pairs: &[(K, V)],
     ) -> Result<SortedMap<K, V, O>, MapFault<V>>
-        ensures { AnswersAdded self.now.order result (add_all (O.order self.now.order) (eq_by_cmp (O.order self.now.order)) V.eq pairs.now self.now.pairs) }
+        ensures { AnswersAdded self.now.order result
+            (add_all (O.order self.now.order)
+            (eq_by_cmp (O.order self.now.order)) V.eq pairs.now self.now.pairs) }
     {
         let mut map = self.share()?;
         for pair in pairs {
@@ -82,7 +90,10 @@ impl<K: Key, V: Key, O: Order<K>> SortedMap<K, V, O> {
 
     // The map with one pair added.
     fn added(&self, alloc: Global, key: &K, value: &V) -> Result<SortedMap<K, V, O>, MapFault<V>>
-        ensures { AnswersAdded self.now.order result (add_over (O.order self.now.order) (eq_by_cmp (O.order self.now.order)) V.eq key.now value.now self.now.pairs (value_of (eq_by_cmp (O.order self.now.order)) key.now self.now.pairs)) }
+        ensures { AnswersAdded self.now.order result
+            (add_over (O.order self.now.order)
+            (eq_by_cmp (O.order self.now.order)) V.eq key.now value.now self.now.pairs
+            (value_of (eq_by_cmp (O.order self.now.order)) key.now self.now.pairs)) }
     {
         match self.get(key) {
             Some(old) if *old == *value => Ok(self.share()?),
@@ -103,7 +114,9 @@ impl<K: Key, V: Key, O: Order<K>> SortedMap<K, V, O> {
         alloc: Global,
         pairs: &[(K, V)],
     ) -> Result<SortedMap<K, V, O>, Memory>
-        ensures pairs { IfOk result (λ m. m.pairs ≡ set_all (O.order self.now.order) (eq_by_cmp (O.order self.now.order)) V.eq pairs.now self.now.pairs) }
+        ensures pairs { IfOk result
+            (λ m. m.pairs ≡ set_all (O.order self.now.order)
+            (eq_by_cmp (O.order self.now.order)) V.eq pairs.now self.now.pairs) }
         ensures order { IfOk result (λ m. m.order ≡ self.now.order) }
     {
         let mut map = self.share()?;
@@ -115,7 +128,9 @@ impl<K: Key, V: Key, O: Order<K>> SortedMap<K, V, O> {
 
     // The map with one pair set.
     fn set(&self, alloc: Global, key: &K, value: &V) -> Result<SortedMap<K, V, O>, Memory>
-        ensures pairs { IfOk result (λ m. m.pairs ≡ set_pair (O.order self.now.order) (eq_by_cmp (O.order self.now.order)) V.eq key.now value.now self.now.pairs) }
+        ensures pairs { IfOk result
+            (λ m. m.pairs ≡ set_pair (O.order self.now.order)
+            (eq_by_cmp (O.order self.now.order)) V.eq key.now value.now self.now.pairs) }
         ensures order { IfOk result (λ m. m.order ≡ self.now.order) }
     {
         if self.has_pair(key, value) {
@@ -128,7 +143,9 @@ impl<K: Key, V: Key, O: Order<K>> SortedMap<K, V, O> {
 
     // The map without the pairs of the keys.
     fn without_all(&self, alloc: Global, keys: &[K]) -> Result<SortedMap<K, V, O>, Memory>
-        ensures pairs { IfOk result (λ m. m.pairs ≡ fold (λ n k. without_key (eq_by_cmp (O.order self.now.order)) k n) self.now.pairs keys.now) }
+        ensures pairs { IfOk result
+            (λ m. m.pairs ≡ fold
+            (λ n k. without_key (eq_by_cmp (O.order self.now.order)) k n) self.now.pairs keys.now) }
         ensures order { IfOk result (λ m. m.order ≡ self.now.order) }
     {
         let mut map = self.share()?;
@@ -140,25 +157,18 @@ impl<K: Key, V: Key, O: Order<K>> SortedMap<K, V, O> {
 
     // Whether each pair is present.
     fn has_all(&self, pairs: &[(K, V)]) -> bool
-        ensures { result ≡ list_all (λ p. has_pair (eq_by_cmp (O.order self.now.order)) V.eq p.0 p.1 self.now.pairs) pairs.now }
+        ensures { result ≡ list_all
+            (λ p. has_pair
+            (eq_by_cmp (O.order self.now.order)) V.eq p.0 p.1 self.now.pairs) pairs.now }
     {
-        for pair in pairs {
-            if !self.has_pair(&pair.0, &pair.1) {
-                return false;
-            }
-        }
-        true
+        pairs.iter().all(|pair| self.has_pair(&pair.0, &pair.1))
     }
 
     // Whether one of the keys is present.
     fn has_any(&self, keys: &[K]) -> bool
-        ensures { result ≡ list_any (λ k. has_key (eq_by_cmp (O.order self.now.order)) k self.now.pairs) keys.now }
+        ensures { result ≡ list_any
+            (λ k. has_key (eq_by_cmp (O.order self.now.order)) k self.now.pairs) keys.now }
     {
-        for key in keys {
-            if self.has_key(key) {
-                return true;
-            }
-        }
-        false
+        keys.iter().any(|key| self.has_key(key))
     }
 }

@@ -1,10 +1,9 @@
 // The set, and the tree that holds it.
-ghost use Rattle.std.specs.Prelude.{◌≡◌, ◌+◌, ◌<◌, ◌≤◌, ◌^◌, length, insert, remove, [], IfOk, MatchResult};
+ghost use Rattle.std.specs.Prelude.{◌≡◌, length, [], IfOk};
 ghost use Rattle.std.specs.Ordering.{eq_by_cmp};
 ghost use Rattle.imm_base.specs.Kept.{IsSet, Rises};
 ghost use Rattle.imm_base.specs.Lists.{clear};
 ghost use Rattle.sorted_sets.specs.Answers.{Answers};
-ghost use Rattle.sorted_sets.specs.Placed.{IsAt, IsMissingAt};
 
 use avl_node::Tree;
 use imm_base::{Edit, Item, Memory, Order};
@@ -14,8 +13,8 @@ use std::marker::Model;
 /// A persistent set, kept in an order. Elements that compare equal are one element of the set. Two
 /// sets may share nodes, also in different threads.
 ///
-/// A changing call answers `Edit::Same` where the set stays as it is, and otherwise another set, kept
-/// in the same order; this one stays in any case.
+/// A changing call answers `Edit::Same` where the set stays as it is, and otherwise another set,
+/// kept in the same order; this one stays in any case.
 #[derive(Drop)]
 pub struct SortedSet<T, O: Order<T>> {
     tree: Tree<T>,
@@ -38,7 +37,7 @@ impl<T, O: Order<T>> Model for SortedSet<T, O> {
 }
 
 impl<T, O: Order<T>> SortedSet<T, O> {
-    /// The empty set, to be kept in this order.
+    /// The empty set, to be kept in this order. O(1).
     pub fn new(order: O) -> SortedSet<T, O>
         ensures items { result.items ≡ [] }
         ensures order { result.order ≡ order }
@@ -61,7 +60,8 @@ impl<T, O: Order<T>> SortedSet<T, O> {
     /// The tree that holds the elements.
     pub fn tree(&self) -> &Tree<T>
         ensures items { result.now.items ≡ self.now.items }
-        ensures set { IsSet (O.order self.now.order) (eq_by_cmp (O.order self.now.order)) self.now.items }
+        ensures set { IsSet (O.order self.now.order)
+            (eq_by_cmp (O.order self.now.order)) self.now.items }
     {
         &self.tree
     }
@@ -73,14 +73,14 @@ impl<T, O: Order<T>> SortedSet<T, O> {
         self.order
     }
 
-    /// How many elements there are.
+    /// How many elements there are. O(1).
     pub fn count(&self) -> u32
         ensures { result ≡ length self.now.items }
     {
         self.tree().count()
     }
 
-    /// An equal set that shares the nodes.
+    /// An equal set that shares the nodes. O(1).
     pub fn share(&self) -> Result<SortedSet<T, O>, Memory>
         ensures { IfOk result (λ set. set ≡ self.now) }
     {
@@ -90,7 +90,7 @@ impl<T, O: Order<T>> SortedSet<T, O> {
 }
 
 impl<T: Drop, O: Order<T>> SortedSet<T, O> {
-    /// The empty set.
+    /// The empty set of the same order. O(1), besides the nodes that nobody shares.
     pub fn clear(&self) -> Edit<SortedSet<T, O>>
         ensures { Answers self.now.order (Ok result) (clear self.now.items) }
     {
@@ -103,47 +103,10 @@ impl<T: Drop, O: Order<T>> SortedSet<T, O> {
 }
 
 impl<T: Item, O: Order<T>> SortedSet<T, O> {
-    /// Copies of the elements.
+    /// Copies of the elements. O(n).
     pub fn to_vec(&self, alloc: Global) -> Result<Vec<T>, Memory>
         ensures { IfOk result (λ v. v.items ≡ self.now.items) }
     {
         self.tree().to_vec(alloc)
-    }
-
-    // The place of the element that is the same, or the place that the value would have.
-    pub(crate) fn place(&self, value: &T) -> Result<u32, u32>
-        ensures { MatchResult result (λ i. IsAt (O.order self.now.order) value.now self.now.items i) (λ i. IsMissingAt (O.order self.now.order) value.now self.now.items i) }
-    {
-        let (place, found) = self.tree().find_by(value, &self.order());
-        if found { Ok(place) } else { Err(place) }
-    }
-
-    // The set with the value before the element at the place.
-    pub(crate) fn inserted(
-        &self,
-        alloc: Global,
-        place: u32,
-        value: T,
-    ) -> Result<SortedSet<T, O>, Memory>
-        requires in_range { place ≤ length self.now.items }
-        requires count_fits { length self.now.items + 1 < 2 ^ 32 }
-        requires set { IsSet (O.order self.now.order) (eq_by_cmp (O.order self.now.order)) (insert self.now.items place value) }
-        ensures items { IfOk result (λ set. set.items ≡ insert self.now.items place value) }
-        ensures order { IfOk result (λ set. set.order ≡ self.now.order) }
-    {
-        let tree = self.tree().inserted(alloc, place, value)?;
-        Ok(SortedSet::of_tree(tree, self.order()))
-    }
-
-    // The set without the element at the place.
-    pub(crate) fn removed(&self, alloc: Global, place: u32) -> Result<SortedSet<T, O>, Memory>
-        requires in_range { place < length self.now.items }
-        requires set { IsSet (O.order self.now.order) (eq_by_cmp (O.order self.now.order)) (remove self.now.items place) }
-        ensures items { IfOk result (λ set. set.items ≡ remove self.now.items place) }
-        ensures order { IfOk result (λ set. set.order ≡ self.now.order) }
-    {
-        let _count = self.count();
-        let tree = self.tree().removed(alloc, place)?;
-        Ok(SortedSet::of_tree(tree, self.order()))
     }
 }

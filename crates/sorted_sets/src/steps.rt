@@ -18,7 +18,14 @@ impl<T: Item, O: Order<T>> SortedSet<T, O> {
         values: &[T],
         most: u32,
     ) -> Result<Option<SortedSet<T, O>>, Memory>
-        ensures { IfOk result (λ o. MatchOption o (most < length (union (O.order self.order) (eq_by_cmp (O.order self.order)) self.items values.now)) (λ set. (set ≡ kept self.order (union (O.order self.order) (eq_by_cmp (O.order self.order)) self.items values.now)) × (length set.items ≤ most))) }
+        ensures { IfOk result
+            (λ o. MatchOption o
+            (most < length
+            (union (O.order self.order) (eq_by_cmp (O.order self.order)) self.items values.now))
+            (λ set.
+            (set ≡ kept self.order
+            (union (O.order self.order) (eq_by_cmp (O.order self.order)) self.items values.now)) ×
+            (length set.items ≤ most))) }
     {
         let mut set = self;
         for value in values {
@@ -36,9 +43,16 @@ impl<T: Item, O: Order<T>> SortedSet<T, O> {
     // The set with the value, where it is absent, or nothing where there would be more than `most`
     // elements then.
     fn with(self, alloc: Global, value: &T, most: u32) -> Result<Option<SortedSet<T, O>>, Memory>
-        ensures { IfOk result (λ o. MatchOption o (most < length (with_element (O.order self.order) (eq_by_cmp (O.order self.order)) value.now self.items)) (λ set. set ≡ kept self.order (with_element (O.order self.order) (eq_by_cmp (O.order self.order)) value.now self.items))) }
+        ensures { IfOk result
+            (λ o. MatchOption o
+            (most < length
+            (with_element (O.order self.order)
+            (eq_by_cmp (O.order self.order)) value.now self.items))
+            (λ set. set ≡ kept self.order
+            (with_element (O.order self.order)
+            (eq_by_cmp (O.order self.order)) value.now self.items))) }
     {
-        let Err(place) = self.place(value) else {
+        let Err(place) = self.search(value) else {
             return Ok(Some(self));
         };
         if self.count() >= most {
@@ -50,8 +64,11 @@ impl<T: Item, O: Order<T>> SortedSet<T, O> {
 
     // The elements that are the same as one of the values.
     pub(crate) fn within(&self, alloc: Global, values: &[T]) -> Result<SortedSet<T, O>, Memory>
-        ensures { IfOk result (λ set. set ≡ kept self.now.order (intersection (eq_by_cmp (O.order self.now.order)) self.now.items values.now)) }
+        ensures { IfOk result
+            (λ set. set ≡ kept self.now.order
+            (intersection (eq_by_cmp (O.order self.now.order)) self.now.items values.now)) }
     {
+        // (for the proof alone: that the elements rise)
         let _elements = self.tree();
         let mut set = SortedSet::new(self.order());
         for value in values {
@@ -72,7 +89,12 @@ impl<T: Item, O: Order<T>> SortedSet<T, O> {
         other: &SortedSet<T, O>,
     ) -> Result<Option<SortedSet<T, O>>, Memory>
         requires { self.order ≡ other.now.order }
-        ensures { IfOk result (λ o. MatchOption o (length other.now.items < length (with_same (O.order self.order) value.now other.now.items self.items)) (λ set. set ≡ kept self.order (with_same (O.order self.order) value.now other.now.items self.items))) }
+        ensures { IfOk result
+            (λ o. MatchOption o
+            (length other.now.items < length
+            (with_same (O.order self.order) value.now other.now.items self.items))
+            (λ set. set ≡ kept self.order
+            (with_same (O.order self.order) value.now other.now.items self.items))) }
     {
         match other.actual(value) {
             Some(element) => self.with(alloc, element, other.count()),
@@ -82,7 +104,9 @@ impl<T: Item, O: Order<T>> SortedSet<T, O> {
 
     // The set without the elements that are the same as one of the values.
     pub(crate) fn without(&self, alloc: Global, values: &[T]) -> Result<SortedSet<T, O>, Memory>
-        ensures { IfOk result (λ set. set ≡ kept self.now.order (difference (eq_by_cmp (O.order self.now.order)) self.now.items values.now)) }
+        ensures { IfOk result
+            (λ set. set ≡ kept self.now.order
+            (difference (eq_by_cmp (O.order self.now.order)) self.now.items values.now)) }
     {
         let mut set = self.share()?;
         for value in values {
@@ -93,9 +117,11 @@ impl<T: Item, O: Order<T>> SortedSet<T, O> {
 
     // The set without the element that is the same as the value.
     fn without_one(self, alloc: Global, value: &T) -> Result<SortedSet<T, O>, Memory>
-        ensures { IfOk result (λ set. set ≡ kept self.order (difference (eq_by_cmp (O.order self.order)) self.items (value.now ∷ []))) }
+        ensures { IfOk result
+            (λ set. set ≡ kept self.order
+            (difference (eq_by_cmp (O.order self.order)) self.items (value.now ∷ []))) }
     {
-        match self.place(value) {
+        match self.search(value) {
             Ok(place) => self.removed(alloc, place),
             Err(_) => Ok(self),
         }

@@ -51,6 +51,10 @@ module _ {A : Type 0} where
     abbrev pub Follows : ℕ → List (Line A) → A → Type 0
     Follows number base value = (l : Line A) × EndsWith base l × follows number l.value value
 
+    -- each version but the first follows the one before it
+    abbrev pub Linked : List (Line A) → Type 0
+    Linked hist = (i : ℕ) (l m : Line A) → get_elem? hist i ≡ some l → get_elem? hist (suc i) ≡ some m → follows m.number l.value m.value
+
     -- the history of a cell that began with the value `opening`, where `next` is the next ticket
     pub record HistoryOk (passes next : ℕ) (opening : A) (hist : List (Line A)) : Type 0 where
       -- it begins with the first version

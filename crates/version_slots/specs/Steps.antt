@@ -11,7 +11,7 @@ use Rattle.version_slots.specs.declared.view.Kind.{Kind}
 use Rattle.version_slots.specs.declared.view.Hold.TheVariants.{Empty, Held, Ready, Duty}
 use Rattle.version_slots.specs.declared.view.Kind.TheVariants.{Look, Scan, Draw, Claim, Publish, Withdraw, Win, Lose, Retire, Enter, Leave}
 use Rattle.version_slots.specs.Words.{head_word}
-use Rattle.version_slots.specs.Histories.{StartsWith, EndsWith, lines_of, Above, Placed}
+use Rattle.version_slots.specs.Histories.{StartsWith, EndsWith, lines_of, Above, Placed, Linked}
 use Rattle.version_slots.specs.Views.{line_of}
 
 -- a seat: its view, and the places that it has in hand
@@ -23,10 +23,10 @@ abbrev pub found : Kind → ℕ → ℕ → Found
 found kind place word = record { kind = kind; place = place; word = word }
 
 -- the whole history was seen: it begins with all that the seat, and each seat that was joined into it, had seen, and the head is its last line's
-abbrev pub Sees : {A : Type 0} → (A → ℕ) → View A → ℕ → List (Line A) → Type 0
-Sees {A} position_of v word hist = StartsWith hist v.seen × ((i : ℕ) (o : Old A) → get_elem? v.olds i ≡ some o → StartsWith hist o.seen)
+abbrev pub Sees : {A : Type 0} → (A → ℕ) → (ℕ → A → A → Type 0) → View A → ℕ → List (Line A) → Type 0
+Sees {A} position_of follows v word hist = StartsWith hist v.seen × ((i : ℕ) (o : Old A) → get_elem? v.olds i ≡ some o → StartsWith hist o.seen)
     × ((l : Line A) × EndsWith hist l × (l.ticket < 2 ^ 46) × (l.slot < 18) × (word ≡ head_word l.ticket l.slot)) × (v.number ≢ 0 → lines_of v.number hist ≡ v.mine)
-    × Placed position_of hist
+    × Placed position_of hist × Linked follows hist
 
 -- What a seat has in hand: the places from this one on, the first on top
 abbrev pub row_on : {S : Type 0} → ℕ → List S → List (ℕ × S) → List (ℕ × S)
@@ -49,8 +49,8 @@ AllAre {P} plain value ys = (i : ℕ) (y : P) → get_elem? ys i ≡ some y → 
 
 module _ {P A : Type 0} where
   -- the head was loaded, and the whole history seen
-  abbrev pub looked : (A → ℕ) → Step (Option P) → Sat P A → ℕ → Sat P A → Type 0
-  looked position_of st m word m' = (m'.1 ≡ m.1) × ((hist : List (Line A)) × Sees position_of m.0 word hist × (m'.0 ≡ record m.0 { seen = hist; found = m.0.found ++ found Look 0 word ∷ [] }))
+  abbrev pub looked : (A → ℕ) → (ℕ → A → A → Type 0) → Step (Option P) → Sat P A → ℕ → Sat P A → Type 0
+  looked position_of follows st m word m' = (m'.1 ≡ m.1) × ((hist : List (Line A)) × Sees position_of follows m.0 word hist × (m'.0 ≡ record m.0 { seen = hist; found = m.0.found ++ found Look 0 word ∷ [] }))
 
   -- the word of a gate has few pins, and that of the next ticket is at most 2 ^ 46
   abbrev pub scanned : Step (Option P) → Sat P A → ℕ → Sat P A → Type 0
@@ -85,15 +85,15 @@ module _ {P A : Type 0} where
       → (word ≡ 1) × (m'.1 ≡ fewer passes m.1) × (m'.0 ≡ record m.0 { hold = Empty; found = m.0.found ++ found Withdraw st.word word ∷ [] })
 
   -- where the head was the base's, the proposal is the version after it, and the old version's gate is the seat's to retire; else the head was seen
-  abbrev pub won : (A → ℕ) → Step (Option P) → Sat P A → ℕ → Sat P A → Type 0
-  won position_of st m word m' = (m'.1 ≡ m.1) × ((slot : ℕ) (base : List (Line A)) (value : A) → m.0.hold ≡ Ready slot base value
+  abbrev pub won : (A → ℕ) → (ℕ → A → A → Type 0) → Step (Option P) → Sat P A → ℕ → Sat P A → Type 0
+  won position_of follows st m word m' = (m'.1 ≡ m.1) × ((slot : ℕ) (base : List (Line A)) (value : A) → m.0.hold ≡ Ready slot base value
       → (word ≡ st.first → ((l : Line A) × EndsWith base l × (m'.0 ≡ record m.0 {
         seen = base ++ line_of m.0 slot value ∷ [];
         mine = m.0.mine ++ line_of m.0 slot value ∷ [];
         hold = Duty l.slot;
         found = m.0.found ++ found Win 0 word ∷ [];
-      })) × Placed position_of (base ++ line_of m.0 slot value ∷ []) × (lines_of m.0.number (base ++ line_of m.0 slot value ∷ []) ≡ m.0.mine ++ line_of m.0 slot value ∷ []))
-      × (word ≢ st.first → (hist : List (Line A)) × StartsWith hist base × (length base < length hist) × Sees position_of m.0 word hist × (m'.0 ≡ record m.0 { seen = hist; found = m.0.found ++ found Lose 0 word ∷ [] })))
+      })) × Placed position_of (base ++ line_of m.0 slot value ∷ []) × (lines_of m.0.number (base ++ line_of m.0 slot value ∷ []) ≡ m.0.mine ++ line_of m.0 slot value ∷ []) × Linked follows (base ++ line_of m.0 slot value ∷ []))
+      × (word ≢ st.first → (hist : List (Line A)) × StartsWith hist base × (length base < length hist) × Sees position_of follows m.0 word hist × (m'.0 ≡ record m.0 { seen = hist; found = m.0.found ++ found Lose 0 word ∷ [] })))
 
   -- the gate is nobody's, and its version stays until another takes the slot
   abbrev pub retires : Step (Option P) → Sat P A → ℕ → Sat P A → Type 0

@@ -5,6 +5,10 @@ use Rattle.std.specs.Prelude.{◌≡◌, ◌⊎◌, ℕ, ◌+◌, ◌*◌, ◌/�
 abbrev pub head_word : ℕ → ℕ → ℕ
 head_word ticket slot = ticket * 32 + slot
 
+-- the word of a Live gate with this tag and no pins
+abbrev pub live_word : ℕ → ℕ
+live_word tag = tag * 262144 + 2
+
 -- who stands behind a Live gate: the head, the seat that has it ready, or the seat that is to retire it
 pub data Use : Type 0 where
   shown : Use

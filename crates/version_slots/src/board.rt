@@ -4,12 +4,13 @@ ghost use Rattle.version_slots.specs.Views.{first_view};
 ghost use Rattle.version_slots.specs.Steps.{AllAre};
 ghost use Rattle.version_slots.specs.Cells.{new_views};
 
-use crate::cell::Board;
+use crate::cell::CellTable;
 use crate::payload::Payload;
 use crate::places::share_all;
 use crate::plays::Deal;
 use crate::rule::{Opening, Place, Top};
 use crate::tokens::Pass;
+use crate::words::{FIRST_WORDS, SLOTS};
 use atomic_table::Table;
 use imm_base::Memory;
 use std::alloc::Global;
@@ -22,8 +23,13 @@ pub(crate) fn first_slots<P: Payload>(
     mut shares: Vec<P>,
     passes: usize,
 ) -> Result<Vec<Option<P>>, Memory>
-    requires { (length shares.items ≡ passes) × AllAre P.plain (P.plain first.now) shares.items × (passes ≤ 8) }
-    ensures { IfOk result (λ v. (ys : _) × (length ys ≡ passes) × AllAre P.plain (P.plain first.now) ys × (v.items ≡ map Some ys ++ replicate (17 * passes) None)) }
+    requires { (length shares.items ≡ passes)
+        × AllAre P.plain (P.plain first.now) shares.items
+        × (passes ≤ 8) }
+    ensures { IfOk result (λ v.
+        (ys : _) × (length ys ≡ passes)
+        × AllAre P.plain (P.plain first.now) ys
+        × (v.items ≡ map Some ys ++ replicate (17 * passes) None)) }
 {
     let _ = first;
     let mut slots = Vec::new(alloc);
@@ -33,7 +39,7 @@ pub(crate) fn first_slots<P: Payload>(
         };
     }
     let mut empty = 0;
-    while empty < 17 * passes {
+    while empty < (SLOTS - 1) * passes {
         let Ok(()) = slots.push(None) else {
             return Err(Memory);
         };
@@ -47,11 +53,16 @@ pub(crate) fn make_table<P: Payload>(
     alloc: Global,
     passes: usize,
     first: P,
-) -> Result<(Board<P>, Place<P>), Memory>
+) -> Result<(CellTable<P>, Place<P>), Memory>
     requires { (0 < passes) × (passes ≤ 8) × (P.position_of (P.plain first) ≡ 0) }
-    ensures table { IfOk result (λ t. (t.0.shared.table_id.words ≡ 20) × (18 * passes ≡ t.0.shared.table_id.slots) × (passes ≡ t.0.shared.key.passes)) }
+    ensures table { IfOk result (λ t.
+        (t.0.shared.table_id.words ≡ 20)
+        × (18 * passes ≡ t.0.shared.table_id.slots)
+        × (passes ≡ t.0.shared.key.passes)) }
     ensures first { IfOk result (λ t. P.plain t.0.shared.key.payload.value ≡ P.plain first) }
-    ensures seat { IfOk result (λ t. (t.1.table_id ≡ t.0.shared.table_id) × (t.1.me ≡ (first_view passes (P.plain first), []))) }
+    ensures seat { IfOk result (λ t.
+        (t.1.table_id ≡ t.0.shared.table_id)
+        × (t.1.me ≡ (first_view passes (P.plain first), []))) }
 {
     let about = Opening {
         passes,
@@ -59,10 +70,7 @@ pub(crate) fn make_table<P: Payload>(
     };
     let shares = share_all(alloc, &first, passes)?;
     let slots = first_slots(alloc, &first, shares, passes)?;
-    let words = [
-        32, 2, 262146, 0, 0, 0, 0, 0, 0, 0, 0, 0, 0, 0, 0, 0, 0, 0, 0, 0,
-    ];
-    match Table::new(alloc, &words, slots, &about) {
+    match Table::new(alloc, &FIRST_WORDS, slots, &about) {
         Ok(made) => Ok(made),
         Err(_) => Err(Memory),
     }
@@ -75,7 +83,10 @@ pub(crate) fn deal<P: Payload>(
     mut passes: Vec<Pass<P>>,
     count: u32,
 ) -> Vec<Pass<P>>
-    requires table { (seat.table_id ≡ top.now.table_id) × (top.now.table_id.words ≡ 20) × (18 * count ≡ top.now.table_id.slots) × (0 < count) }
+    requires table { (seat.table_id ≡ top.now.table_id)
+        × (top.now.table_id.words ≡ 20)
+        × (18 * count ≡ top.now.table_id.slots)
+        × (0 < count) }
     requires seat { seat.me ≡ (first_view count (P.plain top.now.key.payload.value), []) }
     requires room { (passes.items ≡ []) × (count ≤ vec_capacity passes) }
     ensures views { map (λ p. p.place.me.0) result.items ≡ new_views count (P.plain top.now.key.payload.value) }

@@ -9,13 +9,15 @@ ghost use Rattle.version_slots.specs.Cells.{IsIdle, AreIn, olds_of};
 use crate::payload::Payload;
 use crate::plays::Gather;
 use crate::rule::{Place, Top};
-use crate::tokens::{Closed, Front, Pass};
-use atomic_table::Closed as Board;
+use crate::tokens::{Closed, Pass};
+use crate::words::{HEAD, front_of};
+use atomic_table::Closed as ClosedTable;
 use std::alloc::Global;
 
 /// One seat, into which all passes are joined.
 pub(crate) fn gather<P: Payload>(top: &Top<P>, mut passes: Vec<Pass<P>>) -> Place<P>
-    requires table { (0 < top.now.table_id.words) × All (λ p. p.place.table_id ≡ top.now.table_id) passes.items }
+    requires table { (0 < top.now.table_id.words)
+        × All (λ p. p.place.table_id ≡ top.now.table_id) passes.items }
     requires idle { All (λ p. IsIdle p.place.me.0) passes.items }
     requires some_pass { 0 < length passes.items }
     ensures seat { (result.table_id ≡ top.now.table_id) × IsIdle result.me.0 }
@@ -33,31 +35,37 @@ pub(crate) fn gather<P: Payload>(top: &Top<P>, mut passes: Vec<Pass<P>>) -> Plac
 }
 
 /// The payload in the first place of the head's slot, and the head. The other payloads are dropped.
-pub(crate) fn take_last<P: Payload>(mut board: Board<Option<P>, Global>, passes: usize) -> Closed<P>
-    requires counts { (slots_len board.words ≡ 20) × (slots_len board.slots ≡ 18 * passes) × (0 < passes) × (passes ≤ 8) }
-    requires full { IsFull board.words × IsFull board.slots }
-    requires last { (ticket : ℕ) × (slot : ℕ) × (payload : _) × (get_elem? (slots_items board.words) 0 ≡ some (head_word ticket slot)) × (slot < 18) × (get_elem? (slots_items board.slots) (slot * passes) ≡ some (Some payload)) }
-    ensures front { (get_elem? (slots_items board.words) 0 ≡ some (head_word result.front.ticket result.front.slot)) × (result.front.slot < 18) }
-    ensures payload { get_elem? (slots_items board.slots) (result.front.slot * passes) ≡ some (Some result.payload) }
+pub(crate) fn take_last<P: Payload>(
+    mut table: ClosedTable<Option<P>, Global>,
+    passes: usize,
+) -> Closed<P>
+    requires counts { (slots_len table.words ≡ 20)
+        × (slots_len table.slots ≡ 18 * passes)
+        × (0 < passes)
+        × (passes ≤ 8) }
+    requires full { IsFull table.words × IsFull table.slots }
+    requires last { (ticket : ℕ) × (slot : ℕ) × (payload : _)
+        × (get_elem? (slots_items table.words) 0 ≡ some (head_word ticket slot))
+        × (slot < 18)
+        × (get_elem? (slots_items table.slots) (slot * passes) ≡ some (Some payload)) }
+    ensures front { (get_elem? (slots_items table.words) 0 ≡ some (head_word result.front.ticket result.front.slot))
+        × (result.front.slot < 18) }
+    ensures payload { get_elem? (slots_items table.slots) (result.front.slot * passes) ≡ some (Some result.payload) }
 {
-    let head = board.word(0);
-    let slot = head % 32;
-    let at = slot as usize * passes;
+    let front = front_of(table.word(HEAD));
+    let at = front.slot as usize * passes;
     let mut last = None;
     let mut next = 0;
-    while next < board.slot_count() {
-        let share = board.take(next);
+    while next < table.slot_count() {
+        let share = table.take(next);
         if next == at {
             last = share;
         }
         next += 1;
     }
-    board.free();
+    table.free();
     Closed {
         payload: last.unwrap(),
-        front: Front {
-            ticket: head / 32,
-            slot: slot as u32,
-        },
+        front,
     }
 }

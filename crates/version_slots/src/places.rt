@@ -13,7 +13,9 @@ pub(crate) fn share_all<P: Payload>(
     payload: &P,
     passes: usize,
 ) -> Result<Vec<P>, Memory>
-    ensures { IfOk result (λ v. (length v.items ≡ passes) × AllAre P.plain (P.plain payload.now) v.items) }
+    ensures { IfOk result (λ v.
+        (length v.items ≡ passes)
+        × AllAre P.plain (P.plain payload.now) v.items) }
 {
     let mut shares = Vec::new(alloc);
     while shares.len() < passes {
@@ -43,11 +45,19 @@ pub(crate) fn fill_row<P: Payload>(
     mut shares: Vec<P>,
 )
     requires table { place.old.table_id ≡ top.now.table_id }
-    requires row { (xs : _) × (c : _) × (length xs ≡ length shares.items) × (place.old.me.1 ≡ row_on at xs c) × Behind pins c }
+    requires row { (xs : _) × (c : _) × (length xs ≡ length shares.items)
+        × (place.old.me.1 ≡ row_on at xs c)
+        × Behind pins c }
     requires room { at + length shares.items < 2 ^ 32 }
     requires same { AllAre P.plain (P.plain payload.now) shares.items }
-    ensures seat { (place.new.table_id ≡ place.old.table_id) × (place.new.id ≡ place.old.id) × (place.new.me.0 ≡ place.old.me.0) }
-    ensures row { (xs : _) × (ys : _) × (c : _) × (place.old.me.1 ≡ row_on at xs c) × (length xs ≡ length shares.items) × (length ys ≡ length shares.items) × AllAre P.plain (P.plain payload.now) ys × (place.new.me.1 ≡ row_on at (map Some ys) c) }
+    ensures seat { (place.new.table_id ≡ place.old.table_id)
+        × (place.new.id ≡ place.old.id)
+        × (place.new.me.0 ≡ place.old.me.0) }
+    ensures row { (xs : _) × (ys : _) × (c : _) × (place.old.me.1 ≡ row_on at xs c)
+        × (length xs ≡ length shares.items)
+        × (length ys ≡ length shares.items)
+        × AllAre P.plain (P.plain payload.now) ys
+        × (place.new.me.1 ≡ row_on at (map Some ys) c) }
 {
     let _ = payload;
     let mut next = at;
@@ -70,10 +80,17 @@ pub(crate) fn empty_row<P: Payload>(
     passes: usize,
 ) -> P
     requires table { (place.old.table_id ≡ top.now.table_id) × (0 < passes) }
-    requires row { (ys : _) × (c : _) × (length ys ≡ passes) × (place.old.me.1 ≡ row_on at (map Some ys) c) × Behind pins c }
+    requires row { (ys : _) × (c : _) × (length ys ≡ passes)
+        × (place.old.me.1 ≡ row_on at (map Some ys) c)
+        × Behind pins c }
     requires room { at + passes < 2 ^ 32 }
-    ensures seat { (place.new.table_id ≡ place.old.table_id) × (place.new.id ≡ place.old.id) × (place.new.me.0 ≡ place.old.me.0) }
-    ensures row { (ys : _) × (xs : _) × (c : _) × (length ys ≡ passes - 1) × (length xs ≡ passes) × (place.old.me.1 ≡ row_on at (map Some (result ∷ ys)) c) × (place.new.me.1 ≡ row_on at xs c) }
+    ensures seat { (place.new.table_id ≡ place.old.table_id)
+        × (place.new.id ≡ place.old.id)
+        × (place.new.me.0 ≡ place.old.me.0) }
+    ensures row { (ys : _) × (xs : _) × (c : _) × (length ys ≡ passes - 1)
+        × (length xs ≡ passes)
+        × (place.old.me.1 ≡ row_on at (map Some (result ∷ ys)) c)
+        × (place.new.me.1 ≡ row_on at xs c) }
 {
     let payload = top.exchange(place, at, None).unwrap();
     place.turn();

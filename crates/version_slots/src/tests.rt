@@ -3,9 +3,14 @@ ghost use Rattle.std.specs.Prelude.{◌≡◌, ℕ, ◌+◌, ◌^◌, ◌<◌, �
 ghost use Rattle.version_slots.specs.Histories.{Shown};
 ghost use Rattle.version_slots.specs.Tokens.{Pins, Proposed, Refusal};
 ghost use Rattle.version_slots.specs.Cells.{AreAll, IsIdle};
+ghost use Rattle.version_slots.specs.Passes.{view_of, seen_by, held_by, pinned_by, IsPassOf};
 ghost use Rattle.version_slots.specs.declared.view.Hold.TheVariants.{Empty};
 
-use crate::{Base, Closed, Lost, Pass, Payload, Pinned, PrepareFault, Proposal, VersionCell};
+use crate::words::FIRST_WORDS;
+use crate::{
+    Base, Closed, Lost, Pass, Payload, Pinned, PrepareFault, Proposal, VersionCell, WORDS,
+    claimable,
+};
 use imm_base::Memory;
 use std::alloc::Global;
 use std::process::Abort;
@@ -80,7 +85,7 @@ fn new_cell<P: Payload>(
 ) -> (VersionCell<P>, Vec<Pass<P>>)
     requires { (0 < passes) × (passes ≤ 8) × (P.position_of (P.plain first) ≡ 0) }
     ensures count { result.0.passes ≡ passes }
-    ensures passes { All (λ p. (p.place.table_id ≡ result.0.table.shared.table_id) × IsIdle p.place.me.0) result.1.items }
+    ensures passes { All (λ p. IsPassOf result.0 p × IsIdle (view_of p)) result.1.items }
 {
     let Ok(made) = VersionCell::make(alloc, passes, first) else {
         panic!(rt; "no memory for a cell")
@@ -94,9 +99,9 @@ fn last_pass<P: Payload>(
     cell: &VersionCell<P>,
     passes: &mut Vec<Pass<P>>,
 ) -> Pass<P>
-    requires { All (λ p. (p.place.table_id ≡ cell.now.table.shared.table_id) × IsIdle p.place.me.0) passes.old.items }
-    ensures rest { All (λ p. (p.place.table_id ≡ cell.now.table.shared.table_id) × IsIdle p.place.me.0) passes.new.items }
-    ensures pass { (result.place.table_id ≡ cell.now.table.shared.table_id) × IsIdle result.place.me.0 }
+    requires { All (λ p. IsPassOf cell.now p × IsIdle (view_of p)) passes.old.items }
+    ensures rest { All (λ p. IsPassOf cell.now p × IsIdle (view_of p)) passes.new.items }
+    ensures pass { IsPassOf cell.now result × IsIdle (view_of result) }
 {
     let Some(pass) = passes.pop() else {
         panic!(rt; "one pass more")
@@ -112,11 +117,11 @@ fn give_back<P: Payload>(
     count: u32,
     pass: Pass<P>,
 )
-    requires rest { All (λ p. (p.place.table_id ≡ cell.now.table.shared.table_id) × IsIdle p.place.me.0) passes.old.items }
-    requires pass { (pass.place.table_id ≡ cell.now.table.shared.table_id) × IsIdle pass.place.me.0 }
-    requires all { (count < 8) × AreAll count (map (λ p. p.place.me.0) passes.old.items) }
-    ensures rest { All (λ p. (p.place.table_id ≡ cell.now.table.shared.table_id) × IsIdle p.place.me.0) passes.new.items }
-    ensures all { AreAll (count + 1) (map (λ p. p.place.me.0) passes.new.items) }
+    requires rest { All (λ p. IsPassOf cell.now p × IsIdle (view_of p)) passes.old.items }
+    requires pass { IsPassOf cell.now pass × IsIdle (view_of pass) }
+    requires all { (count < 8) × AreAll count (map (λ p. view_of p) passes.old.items) }
+    ensures rest { All (λ p. IsPassOf cell.now p × IsIdle (view_of p)) passes.new.items }
+    ensures all { AreAll (count + 1) (map (λ p. view_of p) passes.new.items) }
 {
     assert!(rt; pass.number() == count + 1);
     assert!(rt; passes.len() < passes.capacity());
@@ -125,8 +130,8 @@ fn give_back<P: Payload>(
 
 /// Ends the cell, where all its passes are there.
 fn finish<P: Payload>(cell: VersionCell<P>, passes: Vec<Pass<P>>, count: u32) -> Closed<P>
-    requires rest { All (λ p. (p.place.table_id ≡ cell.table.shared.table_id) × IsIdle p.place.me.0) passes.items }
-    requires all { (cell.passes ≡ count) × AreAll count (map (λ p. p.place.me.0) passes.items) }
+    requires rest { All (λ p. IsPassOf cell p × IsIdle (view_of p)) passes.items }
+    requires all { (cell.passes ≡ count) × AreAll count (map (λ p. view_of p) passes.items) }
 {
     let _ = count;
     let Ok(closed) = cell.close(passes) else {
@@ -137,9 +142,12 @@ fn finish<P: Payload>(cell: VersionCell<P>, passes: Vec<Pass<P>>, count: u32) ->
 
 /// Lets a version go, and answers it as a base, with its position.
 fn release<P: Payload>(cell: &VersionCell<P>, pass: &mut Pass<P>, pinned: Pinned<P>) -> (Base, u64)
-    requires { (pass.old.place.table_id ≡ cell.now.table.shared.table_id) × (pass.old.place.me.0.hold ≡ Empty) × Pins pass.old.place.me.0 pinned.front (P.plain pinned.payload) }
-    ensures pass { (pass.new.place.table_id ≡ cell.now.table.shared.table_id) × IsIdle pass.new.place.me.0 }
-    ensures base { (value : _) × Shown pass.new.place.me.0.seen result.0.front.ticket result.0.front.slot value × (P.position_of value ≡ result.1) }
+    requires { IsPassOf cell.now pass.old
+        × (held_by pass.old ≡ Empty)
+        × Pins (view_of pass.old) pinned.front (P.plain pinned.payload) }
+    ensures pass { IsPassOf cell.now pass.new × IsIdle (view_of pass.new) }
+    ensures base { (value : _) × Shown (seen_by pass.new) result.0.front.ticket result.0.front.slot value
+        × (P.position_of value ≡ result.1) }
 {
     let base = pinned.base();
     let position = cell.version(&pinned).position();
@@ -149,9 +157,10 @@ fn release<P: Payload>(cell: &VersionCell<P>, pass: &mut Pass<P>, pinned: Pinned
 
 /// The last version, as a base, with its position.
 fn base_of<P: Payload>(rt: &impl Abort, cell: &VersionCell<P>, pass: &mut Pass<P>) -> (Base, u64)
-    requires { (pass.old.place.table_id ≡ cell.now.table.shared.table_id) × IsIdle pass.old.place.me.0 }
-    ensures pass { (pass.new.place.table_id ≡ cell.now.table.shared.table_id) × IsIdle pass.new.place.me.0 }
-    ensures base { (value : _) × Shown pass.new.place.me.0.seen result.0.front.ticket result.0.front.slot value × (P.position_of value ≡ result.1) }
+    requires { IsPassOf cell.now pass.old × IsIdle (view_of pass.old) }
+    ensures pass { IsPassOf cell.now pass.new × IsIdle (view_of pass.new) }
+    ensures base { (value : _) × Shown (seen_by pass.new) result.0.front.ticket result.0.front.slot value
+        × (P.position_of value ≡ result.1) }
 {
     let Ok(pinned) = cell.pin(pass) else {
         panic!(rt; "nobody changes the gate")
@@ -167,11 +176,12 @@ fn propose<P: Payload>(
     base: Base,
     payload: P,
 ) -> Result<Proposal<P>, PrepareFault<P>>
-    requires pass { (pass.old.place.table_id ≡ cell.now.table.shared.table_id) × IsIdle pass.old.place.me.0 }
-    requires base { (value : _) × Shown pass.old.place.me.0.seen base.front.ticket base.front.slot value × P.follows pass.old.place.me.0.number value (P.plain payload) }
-    ensures pass { (pass.new.place.table_id ≡ cell.now.table.shared.table_id) × (pass.new.place.me.0.pin ≡ None) }
-    ensures ok { IfOk result (λ p. Proposed pass.new.place.me.0 p.slot p.ticket p.base) }
-    ensures err { IfErr result (Refusal P.plain pass.old.place.me.0 (P.plain payload) pass.new.place.me.0) }
+    requires pass { IsPassOf cell.now pass.old × IsIdle (view_of pass.old) }
+    requires base { (value : _) × Shown (seen_by pass.old) base.front.ticket base.front.slot value
+        × P.follows (view_of pass.old).number value (P.plain payload) }
+    ensures pass { IsPassOf cell.now pass.new × (pinned_by pass.new ≡ None) }
+    ensures ok { IfOk result (λ p. Proposed (view_of pass.new) p.slot p.ticket p.base) }
+    ensures err { IfErr result (Refusal P.plain (view_of pass.old) (P.plain payload) (view_of pass.new)) }
 {
     cell.prepare(alloc, pass, base, payload)
 }
@@ -185,11 +195,11 @@ fn install_on(
     base: Base,
     position: u64,
 )
-    requires pass { (pass.old.place.table_id ≡ cell.now.table.shared.table_id) × IsIdle pass.old.place.me.0 }
-    requires base { Shown pass.old.place.me.0.seen base.front.ticket base.front.slot position }
-    ensures pass { (pass.new.place.table_id ≡ cell.now.table.shared.table_id) × IsIdle pass.new.place.me.0 }
+    requires pass { IsPassOf cell.now pass.old × IsIdle (view_of pass.old) }
+    requires base { Shown (seen_by pass.old) base.front.ticket base.front.slot position }
+    ensures pass { IsPassOf cell.now pass.new × IsIdle (view_of pass.new) }
 {
-    assert!(rt; position < 1000);
+    assert!(rt; position < 2000);
     let next = Number {
         value: position + 1,
     };
@@ -211,9 +221,9 @@ fn install_many(
     position: u64,
     count: u32,
 )
-    requires pass { (pass.old.place.table_id ≡ cell.now.table.shared.table_id) × IsIdle pass.old.place.me.0 }
-    requires base { Shown pass.old.place.me.0.seen base.front.ticket base.front.slot position }
-    ensures { (pass.new.place.table_id ≡ cell.now.table.shared.table_id) × IsIdle pass.new.place.me.0 }
+    requires pass { IsPassOf cell.now pass.old × IsIdle (view_of pass.old) }
+    requires base { Shown (seen_by pass.old) base.front.ticket base.front.slot position }
+    ensures { IsPassOf cell.now pass.new × IsIdle (view_of pass.new) }
 {
     install_on(rt, alloc, cell, pass, base, position);
     for _ in 1..count {
@@ -289,7 +299,7 @@ fn one_of_two_is_lost(rt: HostRuntime) {
     assert!(rt; payload.position() == 1 && front.ticket == 2);
 }
 
-/// Installs a thousand versions in one thread, and reads the pinned one in another.
+/// Installs 2,000 versions in one thread, and reads the pinned one in another.
 fn install_beside<R: Threads + Abort + Sync>(
     rt: &R,
     alloc: Global,
@@ -299,49 +309,88 @@ fn install_beside<R: Threads + Abort + Sync>(
     base: Base,
     position: u64,
 )
-    requires pass { (pass.old.place.table_id ≡ cell.now.table.shared.table_id) × IsIdle pass.old.place.me.0 }
-    requires base { Shown pass.old.place.me.0.seen base.front.ticket base.front.slot position }
-    ensures { (pass.new.place.table_id ≡ cell.now.table.shared.table_id) × IsIdle pass.new.place.me.0 }
+    requires pass { IsPassOf cell.now pass.old × IsIdle (view_of pass.old) }
+    requires base { Shown (seen_by pass.old) base.front.ticket base.front.slot position }
+    ensures { IsPassOf cell.now pass.new × IsIdle (view_of pass.new) }
 {
     let (_, steady) = join_mut(
         rt,
         &mut ||
-            requires { (pass.now.place.table_id ≡ cell.now.table.shared.table_id) × IsIdle pass.now.place.me.0 × Shown pass.now.place.me.0.seen base.front.ticket base.front.slot position }
-            ensures { (pass.exit.now.place.table_id ≡ cell.entry.now.table.shared.table_id) × IsIdle pass.exit.now.place.me.0 }
-        { install_many(rt, alloc, cell, pass, base, position, 1000) },
-        &mut || (0..1000).all(|_| cell.version(kept).position() == 0),
+            requires { IsPassOf cell.now pass.now
+                × IsIdle (view_of pass.now)
+                × Shown (seen_by pass.now) base.front.ticket base.front.slot position }
+            ensures { IsPassOf cell.entry.now pass.exit.now × IsIdle (view_of pass.exit.now) }
+        { install_many(rt, alloc, cell, pass, base, position, 2000) },
+        &mut || (0..2000).all(|_| cell.version(kept).position() == 0),
     );
     assert!(rt; steady);
 }
 
-// A reader keeps its version while a thousand others pass, in its own thread and in another.
+// A reader stays pinned while 2,000 versions pass, and sees the last one at its next pin.
 #[test]
-fn a_reader_keeps_its_version(rt: HostRuntime) {
-    keeps_its_version(&rt, rt.alloc(), false);
-    keeps_its_version(&rt, rt.alloc(), true);
-}
-
-fn keeps_its_version<R: Threads + Abort + Sync>(rt: &R, alloc: Global, two_threads: bool) {
-    let (cell, mut passes) = new_cell(rt, alloc, 2, Number { value: 0 });
-    let mut second = last_pass(rt, &cell, &mut passes);
-    let mut first = last_pass(rt, &cell, &mut passes);
-    let (base, position) = base_of(rt, &cell, &mut second);
+fn a_reader_stays_pinned(rt: HostRuntime) {
+    let alloc = rt.alloc();
+    let (cell, mut passes) = new_cell(&rt, alloc, 2, Number { value: 0 });
+    let mut second = last_pass(&rt, &cell, &mut passes);
+    let mut first = last_pass(&rt, &cell, &mut passes);
+    let (base, position) = base_of(&rt, &cell, &mut second);
     let Ok(kept) = cell.pin(&mut first) else {
         panic!(rt; "the pin")
     };
-    if two_threads {
-        install_beside(rt, alloc, &cell, &kept, &mut second, base, position);
-    } else {
-        install_many(rt, alloc, &cell, &mut second, base, position, 1000);
-    }
+    install_beside(&rt, alloc, &cell, &kept, &mut second, base, position);
     let (_, position) = release(&cell, &mut first, kept);
     assert!(rt; position == 0);
-    let (_, position) = base_of(rt, &cell, &mut first);
-    assert!(rt; position == 1000);
-    give_back(rt, &cell, &mut passes, 0, first);
-    give_back(rt, &cell, &mut passes, 1, second);
+    let (_, position) = base_of(&rt, &cell, &mut first);
+    assert!(rt; position == 2000);
+    give_back(&rt, &cell, &mut passes, 0, first);
+    give_back(&rt, &cell, &mut passes, 1, second);
     let Closed { payload, front } = finish(cell, passes, 2);
-    assert!(rt; payload.position() == 1000 && front.ticket == 1001);
+    assert!(rt; payload.position() == 2000 && front.ticket == 2001);
+}
+
+/// Pins the version with the passes up to this number, each while the others before it have it pinned.
+fn pin_each(rt: &impl Abort, cell: &VersionCell<Number>, passes: &mut Vec<Pass<Number>>, count: u32)
+    requires rest { All (λ p. IsPassOf cell.now p × IsIdle (view_of p)) passes.old.items }
+    requires few { count ≤ 8 }
+    ensures rest { All (λ p. IsPassOf cell.now p × IsIdle (view_of p)) passes.new.items }
+    ensures all { AreAll count (map (λ p. view_of p) passes.new.items) }
+{
+    if count == 0 {
+        return;
+    }
+    let mut pass = last_pass(rt, cell, passes);
+    let Ok(pinned) = cell.pin(&mut pass) else {
+        panic!(rt; "nobody changes the gate")
+    };
+    pin_each(rt, cell, passes, count - 1);
+    let (_, position) = release(cell, &mut pass, pinned);
+    assert!(rt; position == 0);
+    give_back(rt, cell, passes, count - 1, pass);
+}
+
+#[test]
+fn eight_passes_pin_one_version(rt: HostRuntime) {
+    let (cell, mut passes) = new_cell(&rt, rt.alloc(), 8, Number { value: 0 });
+    pin_each(&rt, &cell, &mut passes, 8);
+    let Closed { payload, .. } = finish(cell, passes, 8);
+    assert!(rt; payload.position() == 0);
+}
+
+// The words of a new cell, and words in which each slot is shown, in hand or pinned.
+#[test]
+fn the_least_claimable_gate(rt: HostRuntime) {
+    assert!(rt; claimable(&FIRST_WORDS) == Some(1));
+    let mut words = [262_146; WORDS];
+    words[0] = 32;
+    words[1] = 2;
+    assert!(rt; claimable(&words) == None);
+    let mut words = [1; WORDS];
+    words[0] = 32;
+    words[1] = 2;
+    words[2] = 262_147;
+    assert!(rt; claimable(&words) == Some(0));
+    words[2] = 262_151;
+    assert!(rt; claimable(&words) == None);
 }
 
 // Three passes pin one version at once, and two of them keep it while another one comes.

@@ -23,7 +23,7 @@ use Rattle.plain_model.specs.declared.commands.PlainCall.TheVariants as calls
 use Rattle.plain_model.specs.declared.history.Reply.TheVariants.{Value, Refused}
 use Rattle.plain_model.specs.declared.history.Refusal.TheVariants.{TooLarge}
 use Rattle.plain_model.specs.Cell as cells
-use Rattle.plain_model.specs.Cell.{cell, add_or_update, put_unless_equal, only, installing}
+use Rattle.plain_model.specs.Cell.{cell, add_or_update, put_unless_equal, reply_only, install_and_reply}
 use Rattle.worked_examples.proofs.Generated.{moved, stepped}
 
 -- numbers with their counts
@@ -206,11 +206,11 @@ one_by : (t n : ℕ) (m : Counts) → RisesFrom 0 m → length m ≤ n → n < L
     → (add_or_update (Int (pos t)) (Int (pos 1)) (Plus (pos 1)) (dict_of m) (option_map (λ c. Int (pos c)) o)).installs ≡ Some (dict_of (with_count t (next_count o) m))
 one_by t n m r short few None h =
     let room : is_over (length (map entry m) + 1) ≡ false = le-ltb LIMIT (length (map entry m) + 1) (omega (arith, entries m)) in
-    ap (λ b. (if b then only (Refused (TooLarge (length (map entry m)))) else installing (cells.put (Int (pos t)) (Int (pos 1)) (dict_of m)) (Value (Int (pos 1)))).installs) room ∙ put_pair t 1 m r
+    ap (λ b. (if b then reply_only (Refused (TooLarge (length (map entry m)))) else install_and_reply (cells.with_value (Int (pos t)) (Int (pos 1)) (dict_of m)) (Value (Int (pos 1)))).installs) room ∙ put_pair t 1 m r
 one_by t n m r short few (Some c) h =
     let low : c ≤ n = h in
     ap (λ z. (put_unless_equal (Int (pos t)) (Int (pos c)) (Int (pos z)) (dict_of m)).installs) (small_sum c (omega arith))
-    ∙ ap (λ b. (if b then only (Value (Int (pos (c + 1)))) else installing (cells.put (Int (pos t)) (Int (pos (c + 1))) (dict_of m)) (Value (Int (pos (c + 1))))).installs) (not_before c)
+    ∙ ap (λ b. (if b then reply_only (Value (Int (pos (c + 1)))) else install_and_reply (cells.with_value (Int (pos t)) (Int (pos (c + 1))) (dict_of m)) (Value (Int (pos (c + 1))))).installs) (not_before c)
     ∙ put_pair t (c + 1) m r
 
 one_count : (t n : ℕ) (m : Counts) → RisesFrom 0 m → length m ≤ n → AreUpTo n m → n < LIMIT → (cell (count_call t) (dict_of m)).installs ≡ Some (dict_of (counted m t))

@@ -13,7 +13,7 @@ use Rattle.worked_examples.specs.LimitExamples.{LimitExamples}
 
 pub lists_hold : AllByRecursion Holds list_examples
 unfolding digits
-lists_hold = (refl, (refl, (refl, (refl, (refl, (refl, (refl, (refl, tt))))))))
+lists_hold = (refl, (refl, (refl, (refl, (refl, (refl, (refl, (refl, (refl, tt)))))))))
 
 pub sets_hold : AllByRecursion Holds set_examples
 unfolding digits

@@ -19,14 +19,16 @@ use Rattle.plain_model.specs.declared.report.CellReport.{CellReport}
 use Rattle.plain_model.specs.declared.report.LocalLine.{LocalLine}
 use Rattle.plain_model.specs.declared.report.Part.{Part}
 use Rattle.plain_model.specs.declared.report.Report.{Report}
-use Rattle.plain_model.specs.Plain.{made, nothing}
+use Rattle.plain_model.specs.Plain.{first_value, nothing}
 use Rattle.plain_model.specs.Cell.{cell, after}
 use Rattle.plain_model.specs.Frozen.{numbers_from}
 use Rattle.plain_model.specs.History.{Numbered, numbered, FitsFrom, Fits, last_value, Whole}
-use Rattle.plain_model.specs.Locals.{◌>>=◌, Name, Locals, no_locals}
-use Rattle.plain_model.specs.Work.{Deed, on_cell, Done, called, line_of, cell_named, deed_of, call_on, deeds_of, work_from, calls_at}
-use Rattle.plain_model.specs.Lawful.{Lawful, Worked, IsRun, every}
+use Rattle.plain_model.specs.Locals.{◌>>=◌, Locals, no_locals}
+use Rattle.plain_model.specs.Names.{Name}
+use Rattle.plain_model.specs.Work.{Deed, on_cell, Done, done_by_call, line_of, cell_named, deed_of, call_on, deeds_of, work_from, calls_at}
+use Rattle.plain_model.specs.Lawful.{Lawful, HasWorked, IsCellRun, parts_of}
 use Rattle.plain_model.specs.Text.{line}
+use Rattle.plain_model.proofs.OneWorker.{parts_of_one}
 use Rattle.plain_model.specs.Generator.{generated, generated_cells, generated_command, in_turn, installs, cell_summary, cell_summary_text}
 
 -- ---- options
@@ -71,14 +73,14 @@ one_more false k ks rest e = e
 
 -- a call that comes to something is its deed
 called_so : (cells : List CellReport) (w o : ℕ) (c : Asked) (s : Locals) (k : Done → Option (List Deed)) (ds : List Deed)
-    → (call_on cells w o c.0 c.1 s >>= k) ≡ Some ds → k (called o c.0 c.1 s) ≡ Some ds
+    → (call_on cells w o c.0 c.1 s >>= k) ≡ Some ds → k (done_by_call o c.0 c.1 s) ≡ Some ds
 called_so cells w o c s k ds e = found (cell_named c.0 cells) e
   where
-    lined : (y : Option Line) → ((y >>= λ l. Some (called o c.0 c.1 s)) >>= k) ≡ Some ds → k (called o c.0 c.1 s) ≡ Some ds
+    lined : (y : Option Line) → ((y >>= λ l. Some (done_by_call o c.0 c.1 s)) >>= k) ≡ Some ds → k (done_by_call o c.0 c.1 s) ≡ Some ds
     lined None e = none_some ds e
     lined (Some l) e = e
 
-    found : (x : Option CellReport) → ((x >>= λ r. line_of w o r.lines >>= λ l. Some (called o c.0 c.1 s)) >>= k) ≡ Some ds → k (called o c.0 c.1 s) ≡ Some ds
+    found : (x : Option CellReport) → ((x >>= λ r. line_of w o r.lines >>= λ l. Some (done_by_call o c.0 c.1 s)) >>= k) ≡ Some ds → k (done_by_call o c.0 c.1 s) ≡ Some ds
     found None e = none_some ds e
     found (Some r) e = lined (line_of w o r.lines) e
 
@@ -89,7 +91,7 @@ module _ (cells : List CellReport) (w : ℕ) (name : Name) where
   deeds_asked f g d (j ∷ js) o s ds e =
       let k : Done → Option (List Deed) = λ done. option_map (λ es. done.deed ∷ es) (deeds_of cells w (o + 1) (map f js) done.after) in
       let e1 : (call_on cells w o (g j).0 (g j).1 s >>= k) ≡ Some ds = ap (λ x. x >>= k) (sym (d j cells w o s)) ∙ e in
-      let e2 : k (called o (g j).0 (g j).1 s) ≡ Some ds = called_so cells w o (g j) s k ds e1 in
+      let e2 : k (done_by_call o (g j).0 (g j).1 s) ≡ Some ds = called_so cells w o (g j) s k ds e1 in
       let it : Numbered = record { ordinal = o; call = (g j).1 } in
       let got = mapped (deeds_of cells w (o + 1) (map f js) s) (λ es. on_cell (g j).0 it ∷ es) ds e2 in
       ap (λ l. plain_calls (calls_at name l)) got.2
@@ -166,20 +168,20 @@ first_of (Err r) = nothing kinds.List
 
 -- what calls make of a cell
 abbrev pub outcome : List PlainCall → CellDecl → ℕ × Plain
-outcome cs c = fold stepped (0, first_of (made c.kind c.values)) cs
+outcome cs c = fold stepped (0, first_of (first_value c.kind c.values)) cs
 
 abbrev pub told : (Name → List PlainCall) → CellDecl → List ℕ
 told asks c = line (cell_summary c (outcome (asks c.name) c).0 (outcome (asks c.name) c).1)
 
-cell_told : (ds : List Deed) (cs : List PlainCall) (c : CellReport) → plain_calls (calls_at c.cell.name ds) ≡ cs → IsRun 1 c → Whole (calls_at c.cell.name ds) 1 c.lines
+cell_told : (ds : List Deed) (cs : List PlainCall) (c : CellReport) → plain_calls (calls_at c.cell.name ds) ≡ cs → IsCellRun 1 c → Whole (calls_at c.cell.name ds) 1 c.lines
     → (installs c.lines, c.last) ≡ outcome cs c.cell
 cell_told ds cs c same run whole =
     let calls : map (λ l. l.call) c.lines ≡ cs = sym (line_calls c.lines) ∙ ap (λ h. plain_calls (map numbered h)) (sym (ones c.lines run.callers)) ∙ ap plain_calls whole ∙ same in
-    let first : first_of (made c.cell.kind c.cell.values) ≡ c.first = ap first_of run.first in
+    let first : first_of (first_value c.cell.kind c.cell.values) ≡ c.first = ap first_of run.first in
     ap (λ q. (installs c.lines, q)) run.last ∙ sym (came c.lines 0 0 c.first run.legal.steps) ∙ ap (λ q. fold stepped (0, q) (map (λ l. l.call) c.lines)) (sym first)
-    ∙ ap (λ l. fold stepped (0, first_of (made c.cell.kind c.cell.values)) l) calls
+    ∙ ap (λ l. fold stepped (0, first_of (first_value c.cell.kind c.cell.values)) l) calls
 
-cells_told : (ds : List Deed) (asks : Name → List PlainCall) → ((name : Name) → plain_calls (calls_at name ds) ≡ asks name) → (cs : List CellReport) → AllByRecursion (IsRun 1) cs
+cells_told : (ds : List Deed) (asks : Name → List PlainCall) → ((name : Name) → plain_calls (calls_at name ds) ≡ asks name) → (cs : List CellReport) → AllByRecursion (IsCellRun 1) cs
     → AllByRecursion (λ c. Whole (calls_at c.cell.name ds) 1 c.lines) cs → flat_map cell_summary_text cs ≡ flat_map (told asks) (map (λ c. c.cell) cs)
 cells_told ds asks same [] runs whole = refl
 cells_told ds asks same (c ∷ cs) runs whole =
@@ -191,21 +193,24 @@ cells_told ds asks same (c ∷ cs) runs whole =
 abbrev pub part_of : List Command → Part
 part_of cs = record { commands = cs }
 
-pub every_part : (f : ℕ → ℕ → Command) (js ps : List ℕ) → every 0 0 (map (λ p. part_of (map (f p) js)) ps) ≡ map (λ p. map (f p) js) ps
-every_part f js [] = refl
-every_part f js (p ∷ ps) = ap (λ t. map (f p) js ∷ t) (every_part f js ps)
+pub every_part : (f : ℕ → ℕ → Command) (js ps : List ℕ) → parts_of 1 1 (map (λ p. part_of (map (f p) js)) ps) ≡ map (λ p. map (f p) js) ps
+every_part f js ps = parts_of_one (map (λ p. part_of (map (f p) js)) ps) ∙ commands_of ps
+  where
+    commands_of : (qs : List ℕ) → map (λ p. p.commands) (map (λ p. part_of (map (f p) js)) qs) ≡ map (λ p. map (f p) js) qs
+    commands_of [] = refl
+    commands_of (q ∷ qs) = ap (λ t. map (f q) js ∷ t) (commands_of qs)
 
-worked_so : (cells : List CellReport) (w : ℕ) (x : Option (List Deed)) (y : Option (List LocalLine)) → Worked w x cells y
+worked_so : (cells : List CellReport) (w : ℕ) (x : Option (List Deed)) (y : Option (List LocalLine)) → HasWorked w x cells y
     → (ds : List Deed) × (x ≡ Some ds) × AllByRecursion (λ c. Whole (calls_at c.cell.name ds) w c.lines) cells
 worked_so cells w (Some ds) (Some ls) m = (ds, refl, m.calls)
 worked_so cells w (Some ds) None m = absurd m
 worked_so cells w None y m = absurd m
 
 alone_told : (f : ℕ → ℕ → Command) (g : ℕ → ℕ → Asked) (d : (p j : ℕ) → IsCall (f p j) (g p j)) (js ps : List ℕ) (asks : Name → List PlainCall)
-    → ((name : Name) → asked name (flat_map (λ p. map (g p) js) ps) ≡ asks name) → (cells : List CellReport) (y : Option (List LocalLine)) → AllByRecursion (IsRun 1) cells
-    → Worked 1 (work_from cells 1 1 (every 0 0 (map (λ p. part_of (map (f p) js)) ps))) cells y → flat_map cell_summary_text cells ≡ flat_map (told asks) (map (λ c. c.cell) cells)
+    → ((name : Name) → asked name (flat_map (λ p. map (g p) js) ps) ≡ asks name) → (cells : List CellReport) (y : Option (List LocalLine)) → AllByRecursion (IsCellRun 1) cells
+    → HasWorked 1 (work_from cells 1 1 (parts_of 1 1 (map (λ p. part_of (map (f p) js)) ps))) cells y → flat_map cell_summary_text cells ≡ flat_map (told asks) (map (λ c. c.cell) cells)
 alone_told f g d js ps asks same cells y runs works =
-    let it = worked_so cells 1 (work_from cells 1 1 (every 0 0 (map (λ p. part_of (map (f p) js)) ps))) y works in
+    let it = worked_so cells 1 (work_from cells 1 1 (parts_of 1 1 (map (λ p. part_of (map (f p) js)) ps))) y works in
     let worked : work_from cells 1 1 (map (λ p. map (f p) js) ps) ≡ Some it.0 = ap (work_from cells 1 1) (sym (every_part f js ps)) ∙ it.1 in
     cells_told it.0 asks (λ name. work_asked cells 1 name f g d js ps 1 it.0 worked ∙ same name) cells runs it.2
 

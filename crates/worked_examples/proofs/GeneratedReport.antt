@@ -1,5 +1,5 @@
 -- A generated script has a lawful report of one worker.
-use Rattle.std.specs.Prelude.{◌≡◌, ℕ, zero, suc, pos, ◌+◌, ◌*◌, ◌%◌, ◌<◌, List, [], ◌∷◌, ◌++◌, length, map, Bool, true, false, ◌||◌, ◌&&◌, ◌==◌, bytes_eq, Option, Some, None, is_some, option_map, if◌then◌else◌, Ok}
+use Rattle.std.specs.Prelude.{◌≡◌, ℕ, zero, suc, pos, ◌+◌, ◌*◌, ◌%◌, ◌<◌, List, [], ◌∷◌, ◌++◌, length, map, Bool, true, false, ◌||◌, ◌&&◌, ◌==◌, bytes_eq, Option, Some, None, is_some, is_none, option_map, if◌then◌else◌, Ok}
 use Rattle.std.specs.List.{flat_map, cons_option, list_any, AllByRecursion}
 use Rattle.std.proofs.Common.{refl, ap, sym, ◌∙◌, arith, subst, true≢false}
 use Rattle.std.proofs.lemmas.Bool.{lt-ltb, eq-eqb}
@@ -11,15 +11,16 @@ use Rattle.plain_model.specs.declared.history.Line.{Line}
 use Rattle.plain_model.specs.declared.report.CellDecl.{CellDecl}
 use Rattle.plain_model.specs.declared.report.CellReport.{CellReport}
 use Rattle.plain_model.specs.declared.report.Report.{Report}
-use Rattle.plain_model.specs.Plain.{made, nothing}
+use Rattle.plain_model.specs.Plain.{first_value, nothing}
 use Rattle.plain_model.specs.Cell.{after, cell}
 use Rattle.plain_model.specs.Frozen.{numbers_from}
-use Rattle.plain_model.specs.History.{Numbered, last_value, calls_of, Whole}
-use Rattle.plain_model.specs.Locals.{◌>>=◌, Name, Locals, no_locals}
-use Rattle.plain_model.specs.Work.{Deed, on_cell, Done, called, line_of, cell_named, call_on, deeds_of, work_from, local_lines, calls_at}
-use Rattle.plain_model.specs.Lawful.{Lawful, Worked, IsRun, every}
+use Rattle.plain_model.specs.History.{Numbered, last_value, calls_of, Whole, probe_of}
+use Rattle.plain_model.specs.Locals.{◌>>=◌, Locals, no_locals}
+use Rattle.plain_model.specs.Names.{Name}
+use Rattle.plain_model.specs.Work.{Deed, on_cell, Done, done_by_call, line_of, cell_named, call_on, deeds_of, work_from, local_lines, calls_at}
+use Rattle.plain_model.specs.Lawful.{Lawful, HasWorked, IsCellRun, parts_of}
 use Rattle.plain_model.specs.Generator.{generated, generated_command}
-use Rattle.worked_examples.proofs.Built.{only_zero, built, line_at, rise_from, built_legal, built_by_one}
+use Rattle.worked_examples.proofs.Built.{only_zero, built, line_at, rise_from, have_no_factory, built_legal, built_by_one}
 use Rattle.worked_examples.proofs.GeneratedCells.{dict_cell, stack_cell, queue_cell, list_cell}
 use Rattle.worked_examples.proofs.Generated.{Asked, IsCall, part_of, every_part, call_in_turn, turns_are_calls, generated_call}
 
@@ -61,6 +62,32 @@ rising : (name : Name) (cs : List Asked) (o low : ℕ) → low < o → rise_from
 rising name [] o low h = refl
 rising name (c ∷ cs) o low h = rise_by (bytes_eq c.0 name) low o c (numbered_asked (o + 1) name cs) h (λ l g. rising name cs (o + 1) l g)
 
+-- no call may run a factory
+abbrev AreUnmade : List Asked → Type 0
+AreUnmade all = AllByRecursion (λ c. is_none (probe_of c.1) ≡ true) all
+
+unmade : (name : Name) (all : List Asked) (o : ℕ) → AreUnmade all → have_no_factory (numbered_asked o name all) ≡ true
+unmade name [] o none = refl
+unmade name (c ∷ cs) o none = here (bytes_eq c.0 name) (unmade name cs (o + 1) none.1)
+  where
+    here : (b : Bool) → have_no_factory (numbered_asked (o + 1) name cs) ≡ true → have_no_factory (cons_option (numbered_if b o c) (numbered_asked (o + 1) name cs)) ≡ true
+    here true rest = ap (λ t. t && have_no_factory (numbered_asked (o + 1) name cs)) none.0 ∙ rest
+    here false rest = rest
+
+turn_unmade : (k : ℕ) (v : Val) → is_none (probe_of (call_in_turn k v).1) ≡ true
+turn_unmade zero v = refl
+turn_unmade (suc zero) v = refl
+turn_unmade (suc (suc zero)) v = refl
+turn_unmade (suc (suc (suc k))) v = refl
+
+all_unmade : (g : ℕ → ℕ → Asked) → ((p j : ℕ) → is_none (probe_of (g p j).1) ≡ true) → (js ps : List ℕ) → AreUnmade (flat_map (λ p. map (g p) js) ps)
+all_unmade g h js [] = tt
+all_unmade g h js (p ∷ ps) = onto js (all_unmade g h js ps)
+  where
+    onto : (is : List ℕ) → AreUnmade (flat_map (λ q. map (g q) js) ps) → AreUnmade (map (g p) is ++ flat_map (λ q. map (g q) js) ps)
+    onto [] rest = rest
+    onto (i ∷ is) rest = (h p i, onto is rest)
+
 -- ---- a line for each
 
 abbrev has : ℕ → List Numbered → Bool
@@ -84,18 +111,18 @@ record Found (cells : List CellReport) (all : List Asked) (c : Asked) : Type 0 w
 
 abbrev Heard : List CellReport → ℕ → List Asked → Type 0
 Heard cells o [] = Unit {0}
-Heard cells o (c ∷ cs) = ((s : Locals) → call_on cells 1 o c.0 c.1 s ≡ Some (called o c.0 c.1 s)) × Heard cells (o + 1) cs
+Heard cells o (c ∷ cs) = ((s : Locals) → call_on cells 1 o c.0 c.1 s ≡ Some (done_by_call o c.0 c.1 s)) × Heard cells (o + 1) cs
 
 called_by : (y : Option Line) (done : Done) → is_some y ≡ true → (y >>= λ l. Some done) ≡ Some done
 called_by (Some l) done e = refl
 called_by None done e = absurd (true≢false (sym e))
 
 heard_one : (cells : List CellReport) (all : List Asked) (c : Asked) (o : ℕ) → Found cells all c → has o (numbered_asked 1 c.0 all) ≡ true → (s : Locals)
-    → call_on cells 1 o c.0 c.1 s ≡ Some (called o c.0 c.1 s)
+    → call_on cells 1 o c.0 c.1 s ≡ Some (done_by_call o c.0 c.1 s)
 heard_one cells all c o found h s =
-    ap (λ x. x >>= λ r. line_of 1 o r.lines >>= λ l. Some (called o c.0 c.1 s)) found.named
-    ∙ ap (λ h. line_of 1 o h >>= λ l. Some (called o c.0 c.1 s)) found.lines
-    ∙ called_by (line_of 1 o (built found.it.first 0 (numbered_asked 1 c.0 all))) (called o c.0 c.1 s) (line_by o (numbered_asked 1 c.0 all) found.it.first 0 h)
+    ap (λ x. x >>= λ r. line_of 1 o r.lines >>= λ l. Some (done_by_call o c.0 c.1 s)) found.named
+    ∙ ap (λ h. line_of 1 o h >>= λ l. Some (done_by_call o c.0 c.1 s)) found.lines
+    ∙ called_by (line_of 1 o (built found.it.first 0 (numbered_asked 1 c.0 all))) (done_by_call o c.0 c.1 s) (line_by o (numbered_asked 1 c.0 all) found.it.first 0 h)
 
 -- what has these ordinals is among all
 abbrev AreAmong : List Asked → ℕ → List Asked → Type 0
@@ -161,10 +188,10 @@ built_calls : (ks : List Numbered) (p : Plain) (k : ℕ) → calls_of 1 (built p
 built_calls [] p k = refl
 built_calls (c ∷ ks) p k = ap (λ l. c ∷ l) (built_calls ks (after c.call p) (if is_some (cell c.call p).installs then k + 1 else k))
 
-run_of : (all : List Asked) (c : CellDecl) (p : Plain) → made c.kind c.values ≡ Ok p → IsRun 1 (report_of all c p)
-run_of all c p e = record {
+run_of : (all : List Asked) → AreUnmade all → (c : CellDecl) (p : Plain) → first_value c.kind c.values ≡ Ok p → IsCellRun 1 (report_of all c p)
+run_of all none c p e = record {
   first = e;
-  legal = built_legal (numbered_asked 1 c.name all) p (rising c.name all 1 0 (omega arith));
+  legal = built_legal (numbered_asked 1 c.name all) p (rising c.name all 1 0 (omega arith)) (unmade c.name all 1 none);
   callers = built_by_one (numbered_asked 1 c.name all) p 0;
   last = refl;
 }
@@ -198,8 +225,8 @@ all_found cells all g h js (p ∷ ps) = onto js (all_found cells all g h js ps)
 
 -- ---- the report
 
-worked_by : (all : List Asked) (cells : List CellReport) (x : Option (List Deed)) → x ≡ Some (deeds_at 1 all) → AllByRecursion (λ c. Whole (calls_at c.cell.name (deeds_at 1 all)) 1 c.lines) cells → Worked 1 x cells (Some [])
-worked_by all cells x e whole = subst (λ y. Worked 1 y cells (Some [])) (sym e) (record { lines = no_lines all 1; calls = whole })
+worked_by : (all : List Asked) (cells : List CellReport) (x : Option (List Deed)) → x ≡ Some (deeds_at 1 all) → AllByRecursion (λ c. Whole (calls_at c.cell.name (deeds_at 1 all)) 1 c.lines) cells → HasWorked 1 x cells (Some [])
+worked_by all cells x e whole = subst (λ y. HasWorked 1 y cells (Some [])) (sym e) (record { lines = no_lines all 1; calls = whole })
 
 unfoldable pub generated_calls : ℕ → List Asked
 generated_calls n = flat_map (λ p. map (generated_call n p) (numbers_from 0 4000)) (numbers_from 0 4)
@@ -210,7 +237,7 @@ calls_same n = refl
 
 -- the work of a script of parts of calls, where all have been found
 script_worked : (f : ℕ → ℕ → Command) (g : ℕ → ℕ → Asked) (d : (p j : ℕ) → IsCall (f p j) (g p j)) (js ps : List ℕ) (all : List Asked) → flat_map (λ p. map (g p) js) ps ≡ all
-    → (cells : List CellReport) → ((p j : ℕ) → Found cells all (g p j)) → work_from cells 1 1 (every 0 0 (map (λ p. part_of (map (f p) js)) ps)) ≡ Some (deeds_at 1 all)
+    → (cells : List CellReport) → ((p j : ℕ) → Found cells all (g p j)) → work_from cells 1 1 (parts_of 1 1 (map (λ p. part_of (map (f p) js)) ps)) ≡ Some (deeds_at 1 all)
 script_worked f g d js ps all e cells found =
     ap (work_from cells 1 1) (every_part f js ps)
     ∙ work_done cells f g d js ps 1 (heard cells all (flat_map (λ p. map (g p) js) ps) 1 (all_found cells all g found js ps) (λ name k h. subst (λ l. has k (numbered_asked 1 name l) ≡ true) e h))
@@ -220,16 +247,18 @@ pub generated_report : (n : ℕ) → (r : Report) × Lawful (generated n) 1 r
 generated_report n =
     let all : List Asked = generated_calls n in
     let cells : List CellReport = cells_of all in
+    let none : AreUnmade all = subst AreUnmade (calls_same n)
+    (all_unmade (generated_call n) (λ p j. turn_unmade (j % 4) (Int (pos ((n + 7 * j + 13 * p) % 100)))) (numbers_from 0 4000) (numbers_from 0 4)) in
     let report : Report = record { workers = 1; cells = cells; locals = [] ∷ [] } in
-    let worked : work_from cells 1 1 (every 0 0 (map (λ p. part_of (map (generated_command n p) (numbers_from 0 4000))) (numbers_from 0 4))) ≡ Some (deeds_at 1 all) =
+    let worked : work_from cells 1 1 (parts_of 1 1 (map (λ p. part_of (map (generated_command n p) (numbers_from 0 4000))) (numbers_from 0 4))) ≡ Some (deeds_at 1 all) =
     script_worked (generated_command n) (generated_call n) (λ p j. turns_are_calls (j % 4) (Int (pos ((n + 7 * j + 13 * p) % 100)))) (numbers_from 0 4000) (numbers_from 0 4) all (calls_same n) cells
     (λ p j. turn_found all (j % 4) (Int (pos ((n + 7 * j + 13 * p) % 100)))) in (
       report,
       record {
         workers = refl;
         cells = refl;
-        runs = (run_of all dict_cell _ refl, (run_of all stack_cell _ refl, (run_of all queue_cell _ refl, (run_of all list_cell _ refl, tt))));
-        lanes = refl;
+        runs = (run_of all none dict_cell _ refl, (run_of all none stack_cell _ refl, (run_of all none queue_cell _ refl, (run_of all none list_cell _ refl, tt))));
+        one_list_per_worker = refl;
         works = only_zero _ (worked_by all cells _ worked (whole_of all dict_cell _, (whole_of all stack_cell _, (whole_of all queue_cell _, (whole_of all list_cell _, tt)))));
       },
     )

@@ -10,7 +10,7 @@ use Rattle.plain_model.specs.declared.commands.PlainOp.TheVariants as ops
 use Rattle.plain_model.specs.declared.commands.PlainCall.{PlainCall}
 use Rattle.plain_model.specs.declared.commands.PlainCall.TheVariants as calls
 use Rattle.plain_model.specs.Frozen.{numbers_from}
-use Rattle.plain_model.specs.Locals.{Name}
+use Rattle.plain_model.specs.Names.{Name}
 use Rattle.plain_model.specs.Text.{line, end_line}
 use Rattle.plain_model.specs.Generator.{generated, generated_cells, commands_in, cell_summary, summary_text, IsSummary}
 use Rattle.worked_examples.specs.GeneratorExamples.{HasSummary, lines_text, summary_of_0, summary_of_7}

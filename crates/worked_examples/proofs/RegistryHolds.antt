@@ -50,8 +50,8 @@ registry_holds = record {
   lawful = record {
     workers = refl;
     cells = refl;
-    runs = (record { first = refl; legal = built_legal registry_calls nobody_yet refl; callers = built_by_one registry_calls nobody_yet 0; last = refl }, tt);
-    lanes = refl;
+    runs = (record { first = refl; legal = built_legal registry_calls nobody_yet refl refl; callers = built_by_one registry_calls nobody_yet 0; last = refl }, tt);
+    one_list_per_worker = refl;
     works = only_zero _ (record { lines = refl; calls = (refl, tt) });
   };
   installs = refl;

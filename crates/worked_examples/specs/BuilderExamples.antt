@@ -130,7 +130,7 @@ growth = record {
       ∷ commands.Change (codes "b") ops.Clear None
       ∷ commands.Capacity (codes "b") 0
       ∷ commands.Move (codes "m") (codes "b")
-      ∷ commands.Capacity (codes "b") 16385
+      ∷ commands.Capacity (codes "b") 65537
       ∷ commands.Change (codes "b") (ops.AddRange (values.List (map Int (pos 1 ∷ pos 2 ∷ pos 3 ∷ pos 4 ∷ pos 5 ∷ [])))) None
       ∷ commands.Move (codes "m") (codes "b")
       ∷ commands.Show (codes "m")
@@ -144,7 +144,7 @@ growth = record {
       ∷ codes "1.6 change b clear -> new"
       ∷ codes "1.7 capacity b 0 -> ok"
       ∷ codes "1.8 move m b -> 0"
-      ∷ codes "1.9 capacity b 16385 -> refused toolarge 0"
+      ∷ codes "1.9 capacity b 65537 -> refused toolarge 0"
       ∷ codes "1.10 change b addrange 1 2 3 4 5 -> new"
       ∷ codes "1.11 move m b -> 5"
       ∷ codes "1.12 show m -> 5: 1 2 3 4 5"

@@ -48,6 +48,19 @@ extremes = record {
 abbrev pub full_list : Example
 full_list = record {
   commands =
+      commands.New (codes "x") kinds.List (values.Seq (pos 0) 65536) None
+      ∷ commands.Let (codes "y") (codes "x") (ops.Add (Int (pos 1))) None
+      ∷ [];
+  lines =
+      codes "1.1 new x list seq 0 65536 -> 65536"
+      ∷ codes "1.2 let y x add 1 -> refused toolarge 65536"
+      ∷ [];
+}
+
+-- a long list
+abbrev pub long_list : Example
+long_list = record {
+  commands =
       commands.New (codes "x") kinds.List (values.Seq (pos 0) 16384) None
       ∷ commands.Let (codes "y") (codes "x") (ops.Add (Int (pos 1))) None
       ∷ commands.Let (codes "z") (codes "x") (ops.RemoveAt 16383) None
@@ -56,7 +69,7 @@ full_list = record {
       ∷ [];
   lines =
       codes "1.1 new x list seq 0 16384 -> 16384"
-      ∷ codes "1.2 let y x add 1 -> refused toolarge 16384"
+      ∷ codes "1.2 let y x add 1 -> new"
       ∷ codes "1.3 let z x removeat 16383 -> new"
       ∷ codes "1.4 let u z add 1 -> new"
       ∷ codes "1.5 ask u get 16383 -> 1"
@@ -215,7 +228,7 @@ list_edges = record {
       ∷ commands.Ask (codes "x") (queries.IndexOf (Int (pos 3))) None
       ∷ commands.Ask (codes "x") (queries.LastIndexOf (Int (pos 7))) None
       ∷ commands.Ask (codes "x") (queries.Contains (Int (pos 7))) None
-      ∷ commands.New (codes "y") kinds.List (values.Seq (pos 0) 16385) None
+      ∷ commands.New (codes "y") kinds.List (values.Seq (pos 0) 65537) None
       ∷ commands.Show (codes "y")
       ∷ [];
   lines =
@@ -239,7 +252,7 @@ list_edges = record {
       ∷ codes "1.18 ask x indexof 3 -> 1"
       ∷ codes "1.19 ask x lastindexof 7 -> -1"
       ∷ codes "1.20 ask x contains 7 -> false"
-      ∷ codes "1.21 new y list seq 0 16385 -> refused toolarge 0"
+      ∷ codes "1.21 new y list seq 0 65537 -> refused toolarge 0"
       ∷ codes "1.22 show y -> 0:"
       ∷ [];
 }
@@ -321,4 +334,4 @@ from_names = record {
 }
 
 abbrev pub list_examples : List Example
-list_examples = places_within ∷ extremes ∷ full_list ∷ list_words ∷ tests_and_sorts ∷ list_edges ∷ stacks_and_queues ∷ from_names ∷ []
+list_examples = places_within ∷ extremes ∷ full_list ∷ long_list ∷ list_words ∷ tests_and_sorts ∷ list_edges ∷ stacks_and_queues ∷ from_names ∷ []

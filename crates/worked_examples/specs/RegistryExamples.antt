@@ -14,6 +14,7 @@ use Rattle.plain_model.specs.declared.report.Answer.TheVariants as answers
 use Rattle.plain_model.specs.declared.report.CellDecl.{CellDecl}
 use Rattle.plain_model.specs.declared.report.Report.{Report}
 use Rattle.plain_model.specs.declared.report.Script.{Script}
+use Rattle.plain_model.specs.declared.report.Version.TheVariants as versions
 use Rattle.plain_model.specs.Plain.{pairs}
 use Rattle.plain_model.specs.Frozen.{numbers_from}
 use Rattle.plain_model.specs.Lawful.{Lawful}
@@ -34,7 +35,7 @@ registry_part =
     ∷ []
 
 abbrev pub registry_script : Script
-registry_script = record { version = 1; cells = registry_cell ∷ []; parts = map (λ p. record { commands = registry_part }) (numbers_from 1 4) }
+registry_script = record { version = versions.One; cells = registry_cell ∷ []; parts = map (λ p. record { commands = registry_part }) (numbers_from 1 4) }
 
 -- what a question is answered
 abbrev pub asked_answer : Command → Answer → Option Answer

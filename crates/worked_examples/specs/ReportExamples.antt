@@ -1,5 +1,5 @@
 -- Scripts, and the reports of one worker.
-use Rattle.std.specs.Prelude.{◌≡◌, ◌++◌, pos, negsuc, ℕ, List, [], ◌∷◌, map, codes, None}
+use Rattle.std.specs.Prelude.{◌≡◌, ◌++◌, pos, negsuc, ℕ, List, [], ◌∷◌, map, codes, Some, None}
 use Rattle.std.specs.List.{flat_map}
 use Rattle.imm_base.specs.declared.val.Val.TheVariants.{Int, Text}
 use Rattle.imm_base.specs.declared.comparers.ValEq.TheVariants as equalities
@@ -7,9 +7,11 @@ use Rattle.plain_model.specs.declared.plain.Kind.TheVariants as kinds
 use Rattle.plain_model.specs.declared.plain.Values.TheVariants as values
 use Rattle.plain_model.specs.declared.commands.PlainOp.TheVariants as ops
 use Rattle.plain_model.specs.declared.commands.Transform.TheVariants.{Set, Plus, Max}
+use Rattle.plain_model.specs.declared.commands.Factory.TheVariants.{Key, Const}
 use Rattle.plain_model.specs.declared.commands.Command.TheVariants as commands
 use Rattle.plain_model.specs.declared.report.Report.{Report}
 use Rattle.plain_model.specs.declared.report.Script.{Script}
+use Rattle.plain_model.specs.declared.report.Version.TheVariants as versions
 use Rattle.plain_model.specs.Text.{report_text, end_line}
 use Rattle.plain_model.specs.Lawful.{Lawful}
 
@@ -27,7 +29,7 @@ pub record IsTold (e : ReportExample) : Type 0 where
 abbrev pub adding_and_reading : ReportExample
 adding_and_reading = record {
   script = record {
-    version = 1;
+    version = versions.One;
     cells = record { name = codes "A"; kind = kinds.List; values = values.List [] } ∷ [];
     parts =
         record {
@@ -59,7 +61,7 @@ adding_and_reading = record {
 abbrev pub read_between : ReportExample
 read_between = record {
   script = record {
-    version = 1;
+    version = versions.One;
     cells = record { name = codes "A"; kind = kinds.List; values = values.List [] } ∷ [];
     parts =
         record {
@@ -91,7 +93,7 @@ read_between = record {
 abbrev pub equal_value_installs : ReportExample
 equal_value_installs = record {
   script = record {
-    version = 1;
+    version = versions.One;
     cells = record { name = codes "C"; kind = kinds.Dict equalities.Ordinal; values = values.Pairs ((Text (codes "a"), Int (pos 1)) ∷ []) } ∷ [];
     parts =
         record {
@@ -119,7 +121,7 @@ equal_value_installs = record {
 abbrev pub queue_emptied : ReportExample
 queue_emptied = record {
   script = record {
-    version = 1;
+    version = versions.One;
     cells = record { name = codes "Q"; kind = kinds.Queue; values = values.List [] } ∷ [];
     parts =
         record {
@@ -157,7 +159,7 @@ queue_emptied = record {
 abbrev pub greatest_sum : ReportExample
 greatest_sum = record {
   script = record {
-    version = 1;
+    version = versions.One;
     cells = record { name = codes "D"; kind = kinds.Dict equalities.Ordinal; values = values.Pairs ((Text (codes "a"), Int (pos 9223372036854775807)) ∷ []) } ∷ [];
     parts =
         record {
@@ -183,7 +185,7 @@ greatest_sum = record {
 abbrev pub publications : ReportExample
 publications = record {
   script = record {
-    version = 1;
+    version = versions.One;
     cells = record { name = codes "A"; kind = kinds.List; values = values.List [] } ∷ [];
     parts =
         record {
@@ -215,7 +217,7 @@ publications = record {
 abbrev pub two_parts : ReportExample
 two_parts = record {
   script = record {
-    version = 1;
+    version = versions.One;
     cells = record { name = codes "A"; kind = kinds.List; values = values.List [] } ∷ [];
     parts =
         record {
@@ -247,7 +249,7 @@ two_parts = record {
 abbrev pub added_and_updated : ReportExample
 added_and_updated = record {
   script = record {
-    version = 1;
+    version = versions.One;
     cells = record { name = codes "R"; kind = kinds.Dict equalities.NoCase; values = values.Pairs [] } ∷ [];
     parts =
         record {
@@ -279,7 +281,7 @@ added_and_updated = record {
 abbrev pub removed : ReportExample
 removed = record {
   script = record {
-    version = 1;
+    version = versions.One;
     cells = record { name = codes "R"; kind = kinds.Dict equalities.NoCase; values = values.Pairs ((Text (codes "a"), Int (pos 7)) ∷ []) } ∷ [];
     parts =
         record {
@@ -309,7 +311,7 @@ removed = record {
 abbrev pub transformed_texts : ReportExample
 transformed_texts = record {
   script = record {
-    version = 1;
+    version = versions.One;
     cells = record { name = codes "R"; kind = kinds.Dict equalities.Ordinal; values = values.Pairs [] } ∷ [];
     parts =
         record {
@@ -339,7 +341,7 @@ transformed_texts = record {
 abbrev pub stack_calls : ReportExample
 stack_calls = record {
   script = record {
-    version = 1;
+    version = versions.One;
     cells = record { name = codes "S"; kind = kinds.Stack; values = values.List (map Int (pos 1 ∷ pos 2 ∷ [])) } ∷ [];
     parts =
         record {
@@ -369,5 +371,124 @@ stack_calls = record {
       ∷ [];
 }
 
+-- a cell of arrays, which is unset at first
+abbrev pub arrays_exchanged : ReportExample
+arrays_exchanged = record {
+  script = record {
+    version = versions.Two;
+    cells = record { name = codes "A"; kind = kinds.Array; values = values.Unset } ∷ [];
+    parts =
+        record {
+          commands =
+              commands.New (codes "x") kinds.Array (values.List (Int (pos 1) ∷ Int (pos 2) ∷ [])) None
+              ∷ commands.Initialize (codes "A") (codes "x")
+              ∷ commands.Initialize (codes "A") (codes "x")
+              ∷ commands.New (codes "y") kinds.Array (values.List (Int (pos 3) ∷ [])) None
+              ∷ commands.Exchange (codes "A") (codes "y")
+              ∷ commands.CompareExchange (codes "A") (codes "x") (Some (codes "y"))
+              ∷ commands.CompareExchange (codes "A") (codes "y") None
+              ∷ commands.Read (codes "A") (codes "z")
+              ∷ [];
+        }
+        ∷ [];
+  };
+  lines =
+      codes "immrun report 1"
+      ∷ codes "workers 1"
+      ∷ codes "cell A array"
+      ∷ codes "first default"
+      ∷ codes "1 1.2 + initialize 2: 1 2 -> true"
+      ∷ codes "1 1.3 . initialize 2: 1 2 -> false"
+      ∷ codes "2 1.5 + exchange 1: 3 -> 2: 1 2"
+      ∷ codes "3 1.6 + compareexchange 2: 1 2 if 1: 3 -> 1: 3"
+      ∷ codes "3 1.7 . compareexchange 1: 3 if default -> 2: 1 2"
+      ∷ codes "3 1.8 . read -> 2"
+      ∷ codes "final 2: 1 2"
+      ∷ codes "worker 1"
+      ∷ codes "1.1 new x array 1 2 -> 2"
+      ∷ codes "1.4 new y array 3 -> 1"
+      ∷ codes "end"
+      ∷ [];
+}
+
+-- an unset array has no operations, and is read as an empty one
+abbrev pub unset_array_kept : ReportExample
+unset_array_kept = record {
+  script = record {
+    version = versions.Two;
+    cells = record { name = codes "A"; kind = kinds.Array; values = values.Unset } ∷ [];
+    parts =
+        record {
+          commands =
+              commands.Update (codes "A") (ops.Add (Int (pos 1)))
+              ∷ commands.Read (codes "A") (codes "x")
+              ∷ commands.Show (codes "x")
+              ∷ [];
+        }
+        ∷ [];
+  };
+  lines =
+      codes "immrun report 1"
+      ∷ codes "workers 1"
+      ∷ codes "cell A array"
+      ∷ codes "first default"
+      ∷ codes "0 1.1 . update add 1 -> refused default"
+      ∷ codes "0 1.2 . read -> default"
+      ∷ codes "final default"
+      ∷ codes "worker 1"
+      ∷ codes "1.3 show x -> 0:"
+      ∷ codes "end"
+      ∷ [];
+}
+
+-- a factory runs where the key is absent
+abbrev pub factories_run : ReportExample
+factories_run = record {
+  script = record {
+    version = versions.Two;
+    cells = record { name = codes "D"; kind = kinds.Dict equalities.Ordinal; values = values.Pairs ((Text (codes "a"), Int (pos 1)) ∷ []) } ∷ [];
+    parts =
+        record {
+          commands =
+              commands.GetOrAddMade (codes "D") (Text (codes "a")) Key
+              ∷ commands.GetOrAddMade (codes "D") (Text (codes "b")) Key
+              ∷ commands.GetOrAddMade (codes "D") (Text (codes "b")) (Const (Int (pos 7)))
+              ∷ commands.AddOrUpdateMade (codes "D") (Text (codes "c")) (Const (Int (pos 5))) (Plus (pos 1))
+              ∷ commands.AddOrUpdateMade (codes "D") (Text (codes "c")) (Const (Int (pos 5))) (Plus (pos 1))
+              ∷ [];
+        }
+        ∷ [];
+  };
+  lines =
+      codes "immrun report 1"
+      ∷ codes "workers 1"
+      ∷ codes "cell D dict ordinal"
+      ∷ codes "first 1: \"a\"=1"
+      ∷ codes "0 1.1 . getoraddf \"a\" key idle -> 1"
+      ∷ codes "1 1.2 + getoraddf \"b\" key ran 0 -> \"b\""
+      ∷ codes "1 1.3 . getoraddf \"b\" const 7 idle -> \"b\""
+      ∷ codes "2 1.4 + addorupdatef \"c\" const 5 plus 1 -> 5"
+      ∷ codes "3 1.5 + addorupdatef \"c\" const 5 plus 1 -> 6"
+      ∷ codes "final 3: \"a\"=1 \"b\"=\"b\" \"c\"=6"
+      ∷ codes "worker 1"
+      ∷ codes "end"
+      ∷ [];
+}
+
 abbrev pub report_examples : List ReportExample
-report_examples = adding_and_reading ∷ read_between ∷ equal_value_installs ∷ queue_emptied ∷ greatest_sum ∷ publications ∷ two_parts ∷ added_and_updated ∷ removed ∷ transformed_texts ∷ stack_calls ∷ []
+report_examples =
+    adding_and_reading
+    ∷ read_between
+    ∷ equal_value_installs
+    ∷ queue_emptied
+    ∷ greatest_sum
+    ∷ publications
+    ∷ two_parts
+    ∷ added_and_updated
+    ∷ removed
+    ∷ transformed_texts
+    ∷ stack_calls
+    ∷ arrays_exchanged
+    ∷ unset_array_kept
+    ∷ factories_run
+    ∷ []

@@ -1,14 +1,14 @@
-//! Calls, commands and declarations of cells.
-ghost use Rattle.std.specs.Prelude.{◌≡◌, ◌++◌, ◌∷◌, OnOk, string_bytes, flat_map};
-ghost use Rattle.imm_base.specs.Spell.{val_text};
+//! Calls, commands and declarations of cells. What has a long word is in a function of its own, since
+//! a word is proved letter by letter.
+ghost use Rattle.std.specs.Prelude.{◌∷◌, [], OnOk};
 ghost use Rattle.plain_model.specs.declared.commands.PlainCall.TheVariants as calls;
 ghost use Rattle.plain_model.specs.declared.commands.Command.TheVariants as commands;
-ghost use Rattle.plain_model.specs.Text.{behind_space, spaced, transform_words, call_words, command_words, decl_words};
+ghost use Rattle.plain_model.specs.Text.{Adds, AddsWords, spaced, transforming_words, transforming_at, add_or_update_at, made_words, making_words, made_at_words, making_at, list_words, call_words, name_or_hyphen, names_at, name_at, command_words, decl_words};
 
 use crate::text::ops::{put_op, put_query};
-use crate::text::values::{put_collection, put_source, put_values};
-use crate::text::words::{put_kind, put_transform};
-use crate::{CellDecl, Command, PlainCall, Transform};
+use crate::text::values::{put_collection, put_list, put_source, put_values};
+use crate::text::words::{put_factory, put_kind, put_probe, put_transform};
+use crate::{CellDecl, Command, Factory, PlainCall, Transform};
 use imm_base::{Text24, Val};
 use std::alloc::AllocError;
 
@@ -20,7 +20,7 @@ fn put_transforming(
     value: Val,
     transform: Transform,
 ) -> Result<(), AllocError>
-    ensures { OnOk result (string_bytes text.new ≡ string_bytes text.old ++ flat_map behind_space (word.now ∷ val_text key ∷ val_text value ∷ transform_words transform)) }
+    ensures { OnOk result (AddsWords text.old text.new (transforming_words word.now key value transform)) }
 {
     write!(text, " {word} {key} {value}")?;
     put_transform(text, transform)
@@ -32,14 +32,50 @@ fn put_add_or_update(
     value: Val,
     transform: Transform,
 ) -> Result<(), AllocError>
-    ensures { OnOk result (string_bytes text.new ≡ string_bytes text.old ++ flat_map behind_space (call_words (calls.AddOrUpdate key value transform))) }
+    ensures { OnOk result (AddsWords text.old text.new (call_words (calls.AddOrUpdate key value transform))) }
 {
     put_transforming(text, "addorupdate", key, value, transform)
 }
 
+/// A word and the elements of an array.
+fn put_array(text: &mut String, word: &str, elements: &[Val]) -> Result<(), AllocError>
+    ensures { OnOk result (AddsWords text.old text.new (word.now ∷ list_words elements.now)) }
+{
+    write!(text, " {word}")?;
+    put_list(text, elements)
+}
+
+/// A word, a key and how its value is made.
+fn put_made(text: &mut String, word: &str, key: Val, make: Factory) -> Result<(), AllocError>
+    ensures { OnOk result (AddsWords text.old text.new (made_words word.now key make)) }
+{
+    write!(text, " {word} {key}")?;
+    put_factory(text, make)
+}
+
+fn put_initialize(text: &mut String, elements: &[Val]) -> Result<(), AllocError>
+    ensures { OnOk result (AddsWords text.old text.new (call_words (calls.Initialize elements.now))) }
+{
+    put_array(text, "initialize", elements)
+}
+
+/// A word, a key, how its value is made, and what becomes of the value that is there.
+fn put_making(
+    text: &mut String,
+    word: &str,
+    key: Val,
+    make: Factory,
+    transform: Transform,
+) -> Result<(), AllocError>
+    ensures { OnOk result (AddsWords text.old text.new (making_words word.now key make transform)) }
+{
+    put_made(text, word, key, make)?;
+    put_transform(text, transform)
+}
+
 /// A call, without the cell's name.
 pub fn put_call(text: &mut String, call: &PlainCall) -> Result<(), AllocError>
-    ensures { OnOk result (string_bytes text.new ≡ string_bytes text.old ++ flat_map behind_space (call_words call.now)) }
+    ensures { OnOk result (AddsWords text.old text.new (call_words call.now)) }
 {
     match call {
         PlainCall::Update(op) => {
@@ -65,6 +101,20 @@ pub fn put_call(text: &mut String, call: &PlainCall) -> Result<(), AllocError>
         PlainCall::TryPop => write!(text, " trypop"),
         PlainCall::Enqueue(value) => write!(text, " enqueue {value}"),
         PlainCall::TryDequeue => write!(text, " trydequeue"),
+        PlainCall::Exchange(array) => put_array(text, "exchange", array.as_slice()),
+        PlainCall::CompareExchange(array, wanted) => {
+            put_array(text, "compareexchange", array.as_slice())?;
+            write!(text, " if")?;
+            put_collection(text, wanted)
+        }
+        PlainCall::Initialize(array) => put_initialize(text, array.as_slice()),
+        PlainCall::GetOrAddMade(key, make, probe) => {
+            put_made(text, "getoraddf", *key, *make)?;
+            put_probe(text, *probe)
+        }
+        PlainCall::AddOrUpdateMade(key, make, transform) => {
+            put_making(text, "addorupdatef", *key, *make, *transform)
+        }
     }
 }
 
@@ -77,7 +127,7 @@ fn put_transforming_at(
     value: Val,
     transform: Transform,
 ) -> Result<(), AllocError>
-    ensures { OnOk result (string_bytes text.new ≡ string_bytes text.old ++ spaced (word.now ∷ cell ∷ val_text key ∷ val_text value ∷ transform_words transform)) }
+    ensures { OnOk result (Adds text.old text.new (spaced (transforming_at word.now cell key value transform))) }
 {
     write!(text, "{word} {cell} {key} {value}")?;
     put_transform(text, transform)
@@ -90,20 +140,80 @@ fn put_add_or_update_at(
     value: Val,
     transform: Transform,
 ) -> Result<(), AllocError>
-    ensures { OnOk result (string_bytes text.new ≡ string_bytes text.old ++ spaced (command_words (commands.AddOrUpdate cell key value transform))) }
+    ensures { OnOk result (Adds text.old text.new (spaced (add_or_update_at cell key value transform))) }
 {
     put_transforming_at(text, "addorupdate", cell, key, value, transform)
 }
 
 fn put_try_dequeue_at(text: &mut String, cell: Text24) -> Result<(), AllocError>
-    ensures { OnOk result (string_bytes text.new ≡ string_bytes text.old ++ spaced (command_words (commands.TryDequeue cell))) }
+    ensures { OnOk result (Adds text.old text.new (spaced (command_words (commands.TryDequeue cell)))) }
 {
     write!(text, "trydequeue {cell}")
 }
 
+/// A name, or a hyphen in place of one.
+fn put_name_or_hyphen(text: &mut String, name: Option<Text24>) -> Result<(), AllocError>
+    ensures { OnOk result (AddsWords text.old text.new (name_or_hyphen name ∷ [])) }
+{
+    match name {
+        Some(name) => write!(text, " {name}"),
+        None => write!(text, " -"),
+    }
+}
+
+/// A word, a cell and two names, of which the second may be left out.
+fn put_names_at(
+    text: &mut String,
+    word: &str,
+    cell: Text24,
+    name: Text24,
+    other: Option<Text24>,
+) -> Result<(), AllocError>
+    ensures { OnOk result (Adds text.old text.new (spaced (names_at word.now cell name other))) }
+{
+    write!(text, "{word} {cell} {name}")?;
+    put_name_or_hyphen(text, other)
+}
+
+/// The same as `put_made`, with the cell's name behind the word.
+fn put_made_at(
+    text: &mut String,
+    word: &str,
+    cell: Text24,
+    key: Val,
+    make: Factory,
+) -> Result<(), AllocError>
+    ensures { OnOk result (Adds text.old text.new (spaced (made_at_words word.now cell key make))) }
+{
+    write!(text, "{word} {cell} {key}")?;
+    put_factory(text, make)
+}
+
+/// A word, a cell and a name.
+fn put_name_at(text: &mut String, word: &str, cell: Text24, name: Text24) -> Result<(), AllocError>
+    ensures { OnOk result (Adds text.old text.new (spaced (name_at word.now cell name))) }
+{
+    write!(text, "{word} {cell} {name}")
+}
+
+/// The same as `put_making`, with the cell's name behind the word.
+fn put_making_at(
+    text: &mut String,
+    word: &str,
+    cell: Text24,
+    key: Val,
+    make: Factory,
+    transform: Transform,
+) -> Result<(), AllocError>
+    ensures { OnOk result (Adds text.old text.new (spaced (making_at word.now cell key make transform))) }
+{
+    put_made_at(text, word, cell, key, make)?;
+    put_transform(text, transform)
+}
+
 /// A command, with its first word at the very beginning.
 pub fn put_command(text: &mut String, command: &Command) -> Result<(), AllocError>
-    ensures { OnOk result (string_bytes text.new ≡ string_bytes text.old ++ spaced (command_words command.now)) }
+    ensures { OnOk result (Adds text.old text.new (spaced (command_words command.now))) }
 {
     match command {
         Command::Update(cell, op) => {
@@ -126,6 +236,21 @@ pub fn put_command(text: &mut String, command: &Command) -> Result<(), AllocErro
         Command::TryPop(cell) => write!(text, "trypop {cell}"),
         Command::Enqueue(cell, value) => write!(text, "enqueue {cell} {value}"),
         Command::TryDequeue(cell) => put_try_dequeue_at(text, *cell),
+        Command::Exchange(cell, name) => write!(text, "exchange {cell} {name}"),
+        Command::CompareExchange(cell, name, wanted) => {
+            put_names_at(text, "compareexchange", *cell, *name, *wanted)
+        }
+        Command::Initialize(cell, name) => put_name_at(text, "initialize", *cell, *name),
+        Command::GetOrAddMade(cell, key, make) => put_made_at(
+            text,
+            "getoraddf",
+            *cell,
+            *key,
+            *make,
+        ),
+        Command::AddOrUpdateMade(cell, key, make, transform) => {
+            put_making_at(text, "addorupdatef", *cell, *key, *make, *transform)
+        }
         Command::New(name, kind, values, from) => {
             write!(text, "new {name}")?;
             put_kind(text, *kind)?;
@@ -170,7 +295,7 @@ pub fn put_command(text: &mut String, command: &Command) -> Result<(), AllocErro
 
 /// The line of a script that declares a cell, without its line feed.
 pub fn put_decl(text: &mut String, cell: &CellDecl) -> Result<(), AllocError>
-    ensures { OnOk result (string_bytes text.new ≡ string_bytes text.old ++ spaced (decl_words cell.now)) }
+    ensures { OnOk result (Adds text.old text.new (spaced (decl_words cell.now))) }
 {
     let name = cell.name;
     write!(text, "cell {name}")?;

@@ -1,8 +1,8 @@
 //! Operations and queries.
-ghost use Rattle.std.specs.Prelude.{◌≡◌, ◌++◌, ◌∷◌, None, OnOk, string_bytes, flat_map, decimal};
+ghost use Rattle.std.specs.Prelude.{◌∷◌, [], None, OnOk, decimal};
 ghost use Rattle.plain_model.specs.declared.commands.PlainOp.TheVariants.{InsertRange, RemoveRange, RemoveKeys};
 ghost use Rattle.plain_model.specs.declared.commands.Query.TheVariants.{LastIndexOf};
-ghost use Rattle.plain_model.specs.Text.{behind_space, source_words, op_words, query_words};
+ghost use Rattle.plain_model.specs.Text.{AddsWords, source_words, indexed_words, op_words, query_words};
 
 use crate::text::values::put_source;
 use crate::text::words::{put_numbers, put_test, put_valued};
@@ -17,7 +17,7 @@ fn put_with(
     values: &Values,
     from: Option<Text24>,
 ) -> Result<(), AllocError>
-    ensures { OnOk result (string_bytes text.new ≡ string_bytes text.old ++ flat_map behind_space (word.now ∷ source_words values.now from)) }
+    ensures { OnOk result (AddsWords text.old text.new (word.now ∷ source_words values.now from)) }
 {
     write!(text, " {word}")?;
     put_source(text, values, from)
@@ -31,7 +31,7 @@ fn put_with_index(
     values: &Values,
     from: Option<Text24>,
 ) -> Result<(), AllocError>
-    ensures { OnOk result (string_bytes text.new ≡ string_bytes text.old ++ flat_map behind_space (word.now ∷ decimal index ∷ source_words values.now from)) }
+    ensures { OnOk result (AddsWords text.old text.new (indexed_words word.now index values.now from)) }
 {
     write!(text, " {word} {index}")?;
     put_source(text, values, from)
@@ -43,26 +43,26 @@ fn put_insert_range(
     values: &Values,
     from: Option<Text24>,
 ) -> Result<(), AllocError>
-    ensures { OnOk result (string_bytes text.new ≡ string_bytes text.old ++ flat_map behind_space (op_words (InsertRange index values.now) from)) }
+    ensures { OnOk result (AddsWords text.old text.new (op_words (InsertRange index values.now) from)) }
 {
     put_with_index(text, "insertrange", index, values, from)
 }
 
 fn put_remove_range(text: &mut String, index: u32, count: u32) -> Result<(), AllocError>
-    ensures { OnOk result (string_bytes text.new ≡ string_bytes text.old ++ flat_map behind_space (op_words (RemoveRange index count) None)) }
+    ensures { OnOk result (AddsWords text.old text.new (op_words (RemoveRange index count) None)) }
 {
     put_numbers(text, "removerange", index, count)
 }
 
 fn put_remove_keys(text: &mut String, keys: &Values, from: Option<Text24>) -> Result<(), AllocError>
-    ensures { OnOk result (string_bytes text.new ≡ string_bytes text.old ++ flat_map behind_space (op_words (RemoveKeys keys.now) from)) }
+    ensures { OnOk result (AddsWords text.old text.new (op_words (RemoveKeys keys.now) from)) }
 {
     put_with(text, "removekeys", keys, from)
 }
 
 /// An operation, with the name that its values come from, if they come from one.
 pub fn put_op(text: &mut String, op: &PlainOp, from: Option<Text24>) -> Result<(), AllocError>
-    ensures { OnOk result (string_bytes text.new ≡ string_bytes text.old ++ flat_map behind_space (op_words op.now from)) }
+    ensures { OnOk result (AddsWords text.old text.new (op_words op.now from)) }
 {
     match op {
         PlainOp::Add(value) => write!(text, " add {value}"),
@@ -100,14 +100,14 @@ pub fn put_op(text: &mut String, op: &PlainOp, from: Option<Text24>) -> Result<(
 }
 
 fn put_last_index_of(text: &mut String, value: Val) -> Result<(), AllocError>
-    ensures { OnOk result (string_bytes text.new ≡ string_bytes text.old ++ flat_map behind_space (query_words (LastIndexOf value) None)) }
+    ensures { OnOk result (AddsWords text.old text.new (query_words (LastIndexOf value) None)) }
 {
     put_valued(text, "lastindexof", value)
 }
 
 /// A query, with the name that its values come from, if they come from one.
 pub fn put_query(text: &mut String, query: &Query, from: Option<Text24>) -> Result<(), AllocError>
-    ensures { OnOk result (string_bytes text.new ≡ string_bytes text.old ++ flat_map behind_space (query_words query.now from)) }
+    ensures { OnOk result (AddsWords text.old text.new (query_words query.now from)) }
 {
     match query {
         Query::Count => write!(text, " count"),

@@ -1,26 +1,16 @@
 //! Answers, lines and reports.
-ghost use Rattle.std.specs.Prelude.{◌≡◌, ◌++◌, ◌∷◌, [], ◌<◌, ◌^◌, length, OnOk, IfOk, string_bytes, flat_map, codes, decimal};
-ghost use Rattle.plain_model.specs.Text.{behind_space, spaced, line, kind_words, mark, caller_word, collection_words, more_words, answer_words, line_text, local_text, cell_text, worker_text, workers_text, report_text};
+ghost use Rattle.std.specs.Prelude.{◌≡◌, ◌++◌, ◌∷◌, [], OnOk, IfOk, flat_map, codes, decimal};
+ghost use Rattle.plain_model.specs.Text.{Adds, AddsWords, spaced, line, mark, place_words, cell_words, title_words, collection_words, answer_words, line_text, local_text, cell_text, worker_text, workers_text, report_text};
 
 use crate::text::commands::{put_call, put_command};
-use crate::text::values::{put_collection, put_counted};
+use crate::text::values::{put_collection, put_short};
 use crate::text::words::{put_kind, put_refusal, put_reply, put_strategy};
 use crate::{Answer, CellDecl, CellReport, Line, Listed, LocalLine, Report, Values};
 use imm_base::Memory;
 use std::alloc::{AllocError, Global};
 
-/// Two points, where a collection has more elements than are shown.
-fn put_more(text: &mut String, count: u64, shown: &Values) -> Result<(), AllocError>
-    ensures { OnOk result (string_bytes text.new ≡ string_bytes text.old ++ flat_map behind_space (more_words count shown.now)) }
-{
-    if shown.count() < count {
-        write!(text, " ..")?;
-    }
-    Ok(())
-}
-
 pub fn put_answer(text: &mut String, answer: &Answer) -> Result<(), AllocError>
-    ensures { OnOk result (string_bytes text.new ≡ string_bytes text.old ++ flat_map behind_space (answer_words answer.now)) }
+    ensures { OnOk result (AddsWords text.old text.new (answer_words answer.now)) }
 {
     match answer {
         Answer::Flag(flag) => write!(text, " {flag}"),
@@ -34,10 +24,7 @@ pub fn put_answer(text: &mut String, answer: &Answer) -> Result<(), AllocError>
         Answer::New => write!(text, " new"),
         Answer::Done => write!(text, " ok"),
         Answer::Strategy(strategy) => put_strategy(text, *strategy),
-        Answer::Shown { count, first } => {
-            put_counted(text, *count as u64, first)?;
-            put_more(text, *count as u64, first)
-        }
+        Answer::Shown { count, first } => put_short(text, *count, first),
         Answer::Refused(refusal) => put_refusal(text, *refusal),
     }
 }
@@ -49,7 +36,7 @@ fn mark(installed: bool) -> &'static str
 }
 
 fn put_place(text: &mut String, line: &Line) -> Result<(), AllocError>
-    ensures { OnOk result (string_bytes text.new ≡ string_bytes text.old ++ spaced (decimal line.now.position ∷ caller_word line.now.caller line.now.ordinal ∷ mark line.now.installed ∷ [])) }
+    ensures { OnOk result (Adds text.old text.new (spaced (place_words line.now))) }
 {
     let position = line.position;
     let caller = line.caller;
@@ -59,17 +46,17 @@ fn put_place(text: &mut String, line: &Line) -> Result<(), AllocError>
 }
 
 fn put_line(text: &mut String, line: &Line) -> Result<(), AllocError>
-    ensures { OnOk result (string_bytes text.new ≡ string_bytes text.old ++ line_text line.now) }
+    ensures { OnOk result (Adds text.old text.new (line_text line.now)) }
 {
     put_place(text, line)?;
     put_call(text, &line.call)?;
     write!(text, " ->")?;
-    put_reply(text, line.reply)?;
+    put_reply(text, &line.reply)?;
     write!(text, "\n")
 }
 
 fn put_lines(text: &mut String, lines: &[Line]) -> Result<(), AllocError>
-    ensures { OnOk result (string_bytes text.new ≡ string_bytes text.old ++ flat_map line_text lines.now) }
+    ensures { OnOk result (Adds text.old text.new (flat_map line_text lines.now)) }
 {
     for line in lines {
         put_line(text, line)?;
@@ -79,7 +66,7 @@ fn put_lines(text: &mut String, lines: &[Line]) -> Result<(), AllocError>
 
 /// A word, and then a collection, as a line.
 fn put_value(text: &mut String, word: &str, values: &Values) -> Result<(), AllocError>
-    ensures { OnOk result (string_bytes text.new ≡ string_bytes text.old ++ line (word.now ∷ collection_words values.now)) }
+    ensures { OnOk result (Adds text.old text.new (line (word.now ∷ collection_words values.now))) }
 {
     write!(text, "{word}")?;
     put_collection(text, values)?;
@@ -87,7 +74,7 @@ fn put_value(text: &mut String, word: &str, values: &Values) -> Result<(), Alloc
 }
 
 fn put_heading(text: &mut String, cell: &CellDecl) -> Result<(), AllocError>
-    ensures { OnOk result (string_bytes text.new ≡ string_bytes text.old ++ line (codes "cell" ∷ cell.now.name ∷ kind_words cell.now.kind)) }
+    ensures { OnOk result (Adds text.old text.new (line (cell_words cell.now))) }
 {
     let name = cell.name;
     write!(text, "cell {name}")?;
@@ -96,7 +83,7 @@ fn put_heading(text: &mut String, cell: &CellDecl) -> Result<(), AllocError>
 }
 
 fn put_cell(text: &mut String, cell: &CellReport) -> Result<(), AllocError>
-    ensures { OnOk result (string_bytes text.new ≡ string_bytes text.old ++ cell_text cell.now) }
+    ensures { OnOk result (Adds text.old text.new (cell_text cell.now)) }
 {
     put_heading(text, &cell.cell)?;
     put_value(text, "first", &cell.first.values)?;
@@ -105,7 +92,7 @@ fn put_cell(text: &mut String, cell: &CellReport) -> Result<(), AllocError>
 }
 
 fn put_cells(text: &mut String, cells: &[CellReport]) -> Result<(), AllocError>
-    ensures { OnOk result (string_bytes text.new ≡ string_bytes text.old ++ flat_map cell_text cells.now) }
+    ensures { OnOk result (Adds text.old text.new (flat_map cell_text cells.now)) }
 {
     for cell in cells {
         put_cell(text, cell)?;
@@ -114,7 +101,7 @@ fn put_cells(text: &mut String, cells: &[CellReport]) -> Result<(), AllocError>
 }
 
 fn put_local(text: &mut String, worker: usize, local: &LocalLine) -> Result<(), AllocError>
-    ensures { OnOk result (string_bytes text.new ≡ string_bytes text.old ++ local_text worker local.now) }
+    ensures { OnOk result (Adds text.old text.new (local_text worker local.now)) }
 {
     let ordinal = local.ordinal;
     write!(text, "{worker}.{ordinal} ")?;
@@ -125,7 +112,7 @@ fn put_local(text: &mut String, worker: usize, local: &LocalLine) -> Result<(), 
 }
 
 fn put_locals(text: &mut String, worker: usize, locals: &[LocalLine]) -> Result<(), AllocError>
-    ensures { OnOk result (string_bytes text.new ≡ string_bytes text.old ++ flat_map (local_text worker) locals.now) }
+    ensures { OnOk result (Adds text.old text.new (flat_map (local_text worker) locals.now)) }
 {
     for local in locals {
         put_local(text, worker, local)?;
@@ -134,14 +121,14 @@ fn put_locals(text: &mut String, worker: usize, locals: &[LocalLine]) -> Result<
 }
 
 fn put_worker(text: &mut String, worker: usize, locals: &[LocalLine]) -> Result<(), AllocError>
-    ensures { OnOk result (string_bytes text.new ≡ string_bytes text.old ++ worker_text worker locals.now) }
+    ensures { OnOk result (Adds text.old text.new (worker_text worker locals.now)) }
 {
     writeln!(text, "worker {worker}")?;
     put_locals(text, worker, locals)
 }
 
 fn put_workers(text: &mut String, workers: &[Listed<LocalLine>]) -> Result<(), AllocError>
-    ensures { OnOk result (string_bytes text.new ≡ string_bytes text.old ++ workers_text 1 workers.now) }
+    ensures { OnOk result (Adds text.old text.new (workers_text 1 workers.now)) }
 {
     let mut worker = 0;
     for locals in workers {
@@ -152,13 +139,13 @@ fn put_workers(text: &mut String, workers: &[Listed<LocalLine>]) -> Result<(), A
 }
 
 fn put_title(text: &mut String) -> Result<(), AllocError>
-    ensures { OnOk result (string_bytes text.new ≡ string_bytes text.old ++ line (codes "immrun" ∷ codes "report" ∷ codes "1" ∷ [])) }
+    ensures { OnOk result (Adds text.old text.new (line title_words)) }
 {
     write!(text, "immrun report 1\n")
 }
 
 fn put_worker_count(text: &mut String, workers: u32) -> Result<(), AllocError>
-    ensures { OnOk result (string_bytes text.new ≡ string_bytes text.old ++ line (codes "workers" ∷ decimal workers ∷ [])) }
+    ensures { OnOk result (Adds text.old text.new (line (codes "workers" ∷ decimal workers ∷ []))) }
 {
     write!(text, "workers {workers}\n")
 }

@@ -1,13 +1,25 @@
-//! Comparers, kinds, transformers, strategies, refusals and replies.
-ghost use Rattle.std.specs.Prelude.{◌≡◌, ◌++◌, Some, OnOk, string_bytes, flat_map, [], ◌∷◌, codes, decimal};
+//! Versions, comparers, kinds, transformers, factories, strategies, refusals and replies.
+ghost use Rattle.std.specs.Prelude.{◌≡◌, ◌++◌, Some, OnOk, [], ◌∷◌, codes, decimal};
 ghost use Rattle.imm_base.specs.Spell.{val_text, test_words};
 ghost use Rattle.plain_model.specs.declared.history.Refusal.TheVariants.{OutOfRange};
-ghost use Rattle.plain_model.specs.Text.{behind_space, comparer_word, elem_word, kind_words, transform_words, strategy_words, refusal_words, reply_words};
+ghost use Rattle.plain_model.specs.Text.{AddsWords, version_word, comparer_word, elem_word, kind_words, transform_words, factory_words, probe_words, word_and_numbers, strategy_words, refusal_words, reply_words};
 
-use crate::{Comparer, Elem, Kind, Refusal, Reply, Strategy, Transform};
+use crate::text::values::put_shown;
+use crate::{Comparer, Elem, Factory, Kind, Probe, Refusal, Reply, Strategy, Transform, Version};
 use imm_base::{Val, ValTest};
 use std::alloc::AllocError;
 use std::fmt;
+
+impl fmt::Display for Version {
+    ghost output = { λ version. Some (version_word version) };
+
+    fn fmt<W: fmt::Write>(&self, f: &mut fmt::Formatter<W>) -> fmt::Result {
+        match self {
+            Version::One => write!(f, "1"),
+            Version::Two => write!(f, "2"),
+        }
+    }
+}
 
 impl fmt::Display for Comparer {
     ghost output = { λ comparer. Some (comparer_word comparer) };
@@ -35,20 +47,20 @@ impl fmt::Display for Elem {
 
 /// A word and two numbers.
 pub fn put_numbers(text: &mut String, word: &str, first: u32, second: u32) -> Result<(), AllocError>
-    ensures { OnOk result (string_bytes text.new ≡ string_bytes text.old ++ flat_map behind_space (word.now ∷ decimal first ∷ decimal second ∷ [])) }
+    ensures { OnOk result (AddsWords text.old text.new (word_and_numbers word.now first second)) }
 {
     write!(text, " {word} {first} {second}")
 }
 
 /// A word and a value.
 pub fn put_valued(text: &mut String, word: &str, value: Val) -> Result<(), AllocError>
-    ensures { OnOk result (string_bytes text.new ≡ string_bytes text.old ++ flat_map behind_space (word.now ∷ val_text value ∷ [])) }
+    ensures { OnOk result (AddsWords text.old text.new (word.now ∷ val_text value ∷ [])) }
 {
     write!(text, " {word} {value}")
 }
 
 pub fn put_kind(text: &mut String, kind: Kind) -> Result<(), AllocError>
-    ensures { OnOk result (string_bytes text.new ≡ string_bytes text.old ++ flat_map behind_space (kind_words kind)) }
+    ensures { OnOk result (AddsWords text.old text.new (kind_words kind)) }
 {
     match kind {
         Kind::List => write!(text, " list"),
@@ -63,7 +75,7 @@ pub fn put_kind(text: &mut String, kind: Kind) -> Result<(), AllocError>
 }
 
 pub fn put_test(text: &mut String, test: ValTest) -> Result<(), AllocError>
-    ensures { OnOk result (string_bytes text.new ≡ string_bytes text.old ++ flat_map behind_space (test_words test)) }
+    ensures { OnOk result (AddsWords text.old text.new (test_words test)) }
 {
     match test {
         ValTest::Is(value) => write!(text, " is {value}"),
@@ -73,7 +85,7 @@ pub fn put_test(text: &mut String, test: ValTest) -> Result<(), AllocError>
 }
 
 pub fn put_transform(text: &mut String, transform: Transform) -> Result<(), AllocError>
-    ensures { OnOk result (string_bytes text.new ≡ string_bytes text.old ++ flat_map behind_space (transform_words transform)) }
+    ensures { OnOk result (AddsWords text.old text.new (transform_words transform)) }
 {
     match transform {
         Transform::Set(value) => write!(text, " set {value}"),
@@ -82,8 +94,26 @@ pub fn put_transform(text: &mut String, transform: Transform) -> Result<(), Allo
     }
 }
 
+pub fn put_factory(text: &mut String, make: Factory) -> Result<(), AllocError>
+    ensures { OnOk result (AddsWords text.old text.new (factory_words make)) }
+{
+    match make {
+        Factory::Key => write!(text, " key"),
+        Factory::Const(value) => write!(text, " const {value}"),
+    }
+}
+
+pub fn put_probe(text: &mut String, probe: Probe) -> Result<(), AllocError>
+    ensures { OnOk result (AddsWords text.old text.new (probe_words probe)) }
+{
+    match probe {
+        Probe::Idle => write!(text, " idle"),
+        Probe::Ran { position } => write!(text, " ran {position}"),
+    }
+}
+
 pub fn put_strategy(text: &mut String, strategy: Strategy) -> Result<(), AllocError>
-    ensures { OnOk result (string_bytes text.new ≡ string_bytes text.old ++ flat_map behind_space (strategy_words strategy)) }
+    ensures { OnOk result (AddsWords text.old text.new (strategy_words strategy)) }
 {
     match strategy {
         Strategy::Linear => write!(text, " linear"),
@@ -94,13 +124,13 @@ pub fn put_strategy(text: &mut String, strategy: Strategy) -> Result<(), AllocEr
 }
 
 fn put_out_of_range(text: &mut String, index: u32, count: u32) -> Result<(), AllocError>
-    ensures { OnOk result (string_bytes text.new ≡ string_bytes text.old ++ flat_map behind_space (refusal_words (OutOfRange index count))) }
+    ensures { OnOk result (AddsWords text.old text.new (refusal_words (OutOfRange index count))) }
 {
     put_numbers(text, "outofrange", index, count)
 }
 
 fn put_reason(text: &mut String, refusal: Refusal) -> Result<(), AllocError>
-    ensures { OnOk result (string_bytes text.new ≡ string_bytes text.old ++ flat_map behind_space (refusal_words refusal)) }
+    ensures { OnOk result (AddsWords text.old text.new (refusal_words refusal)) }
 {
     match refusal {
         Refusal::OutOfRange { index, count } => put_out_of_range(text, index, count),
@@ -116,18 +146,19 @@ fn put_reason(text: &mut String, refusal: Refusal) -> Result<(), AllocError>
         Refusal::Changed { made, now } => write!(text, " changed {made} {now}"),
         Refusal::NoCurrent => write!(text, " nocurrent"),
         Refusal::Publish { count } => write!(text, " publish {count}"),
+        Refusal::Unset => write!(text, " default"),
     }
 }
 
 pub fn put_refusal(text: &mut String, refusal: Refusal) -> Result<(), AllocError>
-    ensures { OnOk result (string_bytes text.new ≡ string_bytes text.old ++ flat_map behind_space (codes "refused" ∷ refusal_words refusal)) }
+    ensures { OnOk result (AddsWords text.old text.new (codes "refused" ∷ refusal_words refusal)) }
 {
     write!(text, " refused")?;
     put_reason(text, refusal)
 }
 
-pub fn put_reply(text: &mut String, reply: Reply) -> Result<(), AllocError>
-    ensures { OnOk result (string_bytes text.new ≡ string_bytes text.old ++ flat_map behind_space (reply_words reply)) }
+pub fn put_reply(text: &mut String, reply: &Reply) -> Result<(), AllocError>
+    ensures { OnOk result (AddsWords text.old text.new (reply_words reply.now)) }
 {
     match reply {
         Reply::Flag(flag) => write!(text, " {flag}"),
@@ -135,6 +166,8 @@ pub fn put_reply(text: &mut String, reply: Reply) -> Result<(), AllocError>
         Reply::Taken(value) => write!(text, " true {value}"),
         Reply::Missing => write!(text, " false"),
         Reply::Count(count) => write!(text, " {count}"),
-        Reply::Refused(refusal) => put_refusal(text, refusal),
+        Reply::Refused(refusal) => put_refusal(text, *refusal),
+        Reply::Shown(shown) => put_shown(text, shown),
+        Reply::Unset => write!(text, " default"),
     }
 }

@@ -4,6 +4,6 @@ use Rattle.immrun_core.proofs.program.top.Goals as goal
 
 pub returns-clause-complete : goal.returns-clause-complete
 returns-clause-complete g c run =
-    let done = c.obey-status in
+    let done = c.dispatch-status in
     is_complete (source_ends g.Q.Source.left g.Q.Source.faults c.args.source.now done.new.source) (sink_ends g.S.Sink.taken g.S.Sink.faults c.args.sink.now done.new.sink)
     done.result done.ensures.ended (λ e. done.ensures.usage.0 e run)

@@ -1,5 +1,5 @@
 use Rattle.std.proofs.Common.{arith, length-take}
-use Rattle.immrun_core.proofs.Known.{reading_lost}
+use Rattle.immrun_core.proofs.StreamSteps.{reading_lost}
 use Rattle.immrun_core.proofs.streams.read_all.Goals as goal
 
 pub returns-then-is_err-clause-read : goal.returns-then-is_err-clause-read

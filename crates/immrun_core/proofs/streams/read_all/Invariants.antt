@@ -1,6 +1,6 @@
 use Rattle.std.proofs.Common.{◌+◌, ◌-◌, vec_len}
 use Rattle.immrun_core.specs.Outside.{max_input, source_ends}
-use Rattle.immrun_core.proofs.Known.{Reading}
+use Rattle.immrun_core.proofs.StreamSteps.{Reading}
 use Rattle.immrun_core.proofs.streams.read_all.Given as goal
 
 abbrev pub invariant-reading : goal.invariant-reading

@@ -1,4 +1,4 @@
-use Rattle.immrun_core.proofs.Known.{writing_on}
+use Rattle.immrun_core.proofs.StreamSteps.{writing_on}
 use Rattle.immrun_core.proofs.streams.write_all.Goals as goal
 
 pub writing-preserved : goal.writing-preserved

@@ -1,6 +1,6 @@
 use Rattle.std.proofs.Common.{◌-◌, length}
 use Rattle.immrun_core.specs.Outside.{sink_ends}
-use Rattle.immrun_core.proofs.Known.{Writing}
+use Rattle.immrun_core.proofs.StreamSteps.{Writing}
 use Rattle.immrun_core.proofs.streams.write_all.Given as goal
 
 abbrev pub invariant-writing : goal.invariant-writing

@@ -1,4 +1,4 @@
-use Rattle.immrun_core.proofs.Known.{piece_within, cut_off, failed_end}
+use Rattle.immrun_core.proofs.StreamSteps.{piece_within, cut_off, failed_end}
 use Rattle.immrun_core.proofs.streams.write_pieces.Goals as goal
 
 pub returns-in_err-write_all-clause-write : goal.returns-in_err-write_all-clause-write

@@ -1,7 +1,7 @@
 use Rattle.std.proofs.Common.{take}
 use Rattle.std.specs.Prelude.{flat_map}
 use Rattle.immrun_core.specs.Outside.{sink_ends}
-use Rattle.immrun_core.proofs.Known.{Written}
+use Rattle.immrun_core.proofs.StreamSteps.{Written}
 use Rattle.immrun_core.proofs.streams.write_pieces.Given as goal
 
 abbrev pub invariant-loop-piece : goal.invariant-loop-piece

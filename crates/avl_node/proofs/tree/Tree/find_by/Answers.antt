@@ -1,6 +1,0 @@
-use Rattle.avl_node.proofs.Sortedness.{ascend_from_sorted}
-use Rattle.avl_node.proofs.tree.Tree.find_by.Goals as goal
-
-pub find_at-requires : goal.find_at-requires
-find_at-requires g c =
-    ascend_from_sorted (g.O.Order.order c.args.order.now) (g.met.O.Order.total c.args.order.now) c.args.value.now c.args.self.now.items c.requires

@@ -1,0 +1,137 @@
+//! Sorted sets.
+ghost use Rattle.std.specs.Prelude.{◌≡◌, true, IfOk};
+ghost use Rattle.std.specs.Ordering.{eq_by_cmp};
+ghost use Rattle.imm_base.specs.Order.{order_cmp};
+ghost use Rattle.imm_base.specs.Sets.{relation};
+ghost use Rattle.sorted_sets.specs.Answers.{Answers};
+ghost use Rattle.plain_model.specs.Plain.{elements, made, set_op};
+ghost use Rattle.plain_model.specs.Queries.{set_answer};
+ghost use Rattle.plain_model.specs.Sources.{are_within, is_within, op_values, query_values};
+ghost use Rattle.collections.specs.Changes.{made_map};
+ghost use Rattle.collections.specs.Kinds.{sorted_set_of};
+
+use crate::Collection;
+use crate::answers::{first_of, value_or, value_or_none};
+use crate::collection::Repr;
+use crate::elements::elements;
+use crate::of_kind::{Changed, Judged, OfKind, judged, or_unchanged};
+use imm_base::{Edit, Memory, SetFault, SetTest, Val, ValOrder};
+use plain_model::{Answer, Comparer, Kind, Listed, PlainOp, Query, Refusal, Values};
+use sorted_sets::SortedSet;
+use std::alloc::Global;
+
+type Set = SortedSet<Val, ValOrder>;
+
+impl OfKind for Set {
+    ghost as_plain = { sorted_set_of };
+
+    fn into_collection(self) -> Collection {
+        Collection::of_repr(Repr::SSet(self))
+    }
+
+    fn kind(&self) -> Kind {
+        Kind::SSet(self.order())
+    }
+
+    fn to_values(&self, alloc: Global) -> Result<Values, Memory> {
+        Ok(Values::List(Listed::from_vec(self.to_vec(alloc)?)))
+    }
+
+    fn apply(&self, alloc: Global, op: &PlainOp) -> Changed<Set> {
+        judged(change(alloc, self, op))
+    }
+
+    fn answer(&self, alloc: Global, query: &Query) -> Result<Answer, Memory> {
+        answer(alloc, self, query)
+    }
+
+    fn preview(&self, alloc: Global) -> Result<Answer, Memory> {
+        Ok(Answer::Shown {
+            count: self.count(),
+            first: Values::List(Listed::from_vec(first_of(alloc, self.tree())?)),
+        })
+    }
+
+    fn rekeyed(&self, alloc: Global, comparer: Comparer) -> Changed<Set> {
+        match comparer.order() {
+            Some(order) => judged(self.with_order(alloc, order)),
+            None => unreachable!(),
+        }
+    }
+}
+
+/// The set of these values: their union with the empty one.
+pub(crate) fn set_of_values(alloc: Global, order: ValOrder, values: &Values) -> Judged<Set>
+    requires { is_within values.now ≡ true }
+    ensures { IfOk result (λ m. made_map sorted_set_of m ≡ made (Kind.SSet order) values.now) }
+{
+    let values = elements(alloc, values)?;
+    let empty = SortedSet::new(order);
+    let union = judged(empty.union_with(alloc, values.as_slice()))?;
+    Ok(or_unchanged(empty, union))
+}
+
+// What an operation gives of a set. One that sets do not have leaves it as it is.
+fn change(alloc: Global, set: &Set, op: &PlainOp) -> Result<Edit<Set>, SetFault>
+    requires { are_within (op_values op.now) ≡ true }
+    ensures { Answers set.now.order result (set_op (order_cmp set.now.order)
+        (eq_by_cmp (order_cmp set.now.order)) op.now set.now.items) }
+{
+    match op {
+        PlainOp::Add(value) => set.add(alloc, *value),
+        PlainOp::Remove(value) => set.remove(alloc, value),
+        PlainOp::Union(values) => set.union_with(alloc, elements(alloc, values)?.as_slice()),
+        PlainOp::Intersect(values) => {
+            set.intersect_with(alloc, elements(alloc, values)?.as_slice())
+        }
+        PlainOp::Except(values) => set.except_with(alloc, elements(alloc, values)?.as_slice()),
+        PlainOp::SymExcept(values) => {
+            set.sym_except_with(alloc, elements(alloc, values)?.as_slice())
+        }
+        PlainOp::Clear => Ok(set.clear()),
+        _ => Ok(Edit::Same),
+    }
+}
+
+// What a question about a set is answered.
+fn answer(alloc: Global, set: &Set, query: &Query) -> Result<Answer, Memory>
+    requires { are_within (query_values query.now) ≡ true }
+    ensures { IfOk result (λ a. a ≡ set_answer (order_cmp set.now.order)
+        (eq_by_cmp (order_cmp set.now.order)) query.now set.now.items) }
+{
+    match query {
+        Query::Count => Ok(Answer::Count(u64::from(set.count()))),
+        Query::Get(index) => Ok(element(set, *index)),
+        Query::IndexOf(value) => Ok(Answer::Index(set.index_of(value))),
+        Query::Contains(value) => Ok(Answer::Flag(set.contains(value))),
+        Query::Actual(value) => Ok(value_or_none(set.actual(value))),
+        Query::Min => Ok(value_or_none(set.min())),
+        Query::Max => Ok(value_or_none(set.max())),
+        Query::Subset(values) => relation(alloc, set, SetTest::Subset, values),
+        Query::Superset(values) => relation(alloc, set, SetTest::Superset, values),
+        Query::ProperSubset(values) => relation(alloc, set, SetTest::ProperSubset, values),
+        Query::ProperSuperset(values) => relation(alloc, set, SetTest::ProperSuperset, values),
+        Query::Overlaps(values) => relation(alloc, set, SetTest::Overlaps, values),
+        Query::SetEquals(values) => relation(alloc, set, SetTest::SetEquals, values),
+        _ => Ok(Answer::Missing),
+    }
+}
+
+fn element(set: &Set, index: u32) -> Answer
+    ensures { result ≡ set_answer (order_cmp set.now.order) (eq_by_cmp (order_cmp set.now.order))
+        (Query.Get index) set.now.items }
+{
+    let count = set.count();
+    let out_of_range = Answer::Refused(Refusal::OutOfRange { index, count });
+    value_or(out_of_range, set.tree().at(index))
+}
+
+// Whether the set stands so to the set of the values.
+fn relation(alloc: Global, set: &Set, which: SetTest, values: &Values) -> Result<Answer, Memory>
+    requires { is_within values.now ≡ true }
+    ensures { IfOk result (λ a. a ≡ Answer.Flag (relation (eq_by_cmp (order_cmp set.now.order)) which
+        (elements values.now) set.now.items)) }
+{
+    let values = elements(alloc, values)?;
+    Ok(Answer::Flag(set.relation(alloc, which, values.as_slice())?))
+}

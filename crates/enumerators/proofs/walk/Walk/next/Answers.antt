@@ -1,0 +1,10 @@
+use Rattle.enumerators.proofs.PlainPools.{owner_is, changed_at, same_pool}
+use Rattle.enumerators.proofs.walk.Walk.next.Goals as goal
+
+pub returns-in-Err-check : goal.returns-in-Err-check
+returns-in-Err-check c =
+    let owner = owner_is _ _ c.in-Ok.ensures.disposed.1 in
+    let content = c.in-Ok.ensures.ok in (
+      changed_at c.args.pool.now c.args.self c.in-Ok.rest.now owner content c.args.now c.in-Err-check.fault c.in-Err-check.ensures.0 c.in-Err-check.ensures.1,
+      same_pool c.args.pool.now c.args.self.owner.place c.in-Ok.rest.now content,
+    )

@@ -1,0 +1,6 @@
+pub mod Series
+pub mod Rests
+pub mod Orders
+pub mod PlainPools
+pub mod Walking
+pub mod SharedWalks

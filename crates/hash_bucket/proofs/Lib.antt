@@ -1,0 +1,4 @@
+pub mod Elements
+pub mod Hashes
+pub mod Searches
+pub mod Trees

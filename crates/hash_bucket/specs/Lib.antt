@@ -1,0 +1,6 @@
+pub mod Answers
+pub mod Bucketed
+pub mod Buckets
+pub mod Hashed
+pub mod Places
+pub mod Rows

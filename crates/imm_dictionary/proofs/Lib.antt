@@ -1,0 +1,4 @@
+pub mod Added
+pub mod Entries
+pub mod InCommon
+pub mod InOrder

@@ -1,0 +1,9 @@
+use Rattle.std.proofs.Common.{◌∙◌, ap, sym, length}
+use Rattle.imm_base.specs.Sets.{has}
+use Rattle.imm_base.proofs.Combined.{filter_whole}
+use Rattle.imm_dictionary.proofs.set.ImmHashSet.intersect_with.Goals as goal
+
+pub changed_to-requires-clause-whole : goal.changed_to-requires-clause-whole
+changed_to-requires-clause-whole g c = λ e.
+    let items = ap (λ s. s.items) c.in_ok-set.ensures in
+    items ∙ filter_whole (λ x. has (g.H.HashEq.same c.args.self.now.eq) x c.args.values.now) c.args.self.now.items (ap length (sym items) ∙ e)

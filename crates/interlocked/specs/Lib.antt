@@ -1,0 +1,12 @@
+pub mod Entries
+pub mod Outcomes
+pub mod Laws
+pub mod Tries
+pub mod Retries
+pub mod Known
+pub mod Whole
+pub mod Rights
+pub mod Updates
+pub mod Called
+pub mod Meanings
+pub mod Factories

@@ -1,0 +1,3 @@
+pub mod Bound
+pub mod Results
+pub mod Commands

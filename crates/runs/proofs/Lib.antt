@@ -1,0 +1,5 @@
+pub mod Deeds
+pub mod Parts
+pub mod OneCell
+pub mod OneRun
+pub mod OneSteps

@@ -1,9 +1,0 @@
-use Rattle.std.proofs.Common.{◌≡◌, true, refl, sym, ◌∙◌}
-use Rattle.script.specs.Values.{is_capital, is_name}
-use Rattle.script.proofs.Names.{is_text-cell_name}
-use Rattle.script.proofs.values.cell_name.Goals as goal
-
-pub returns : goal.returns
-returns c =
-    let is : is_name is_capital c.args.word.now ≡ true = sym c.is_cell_name.ensures ∙ c.if-not-is_cell_name.false in
-    rw (c.ok_or.ensures.value, c.text_of.ensures, is_text-cell_name c.args.word.now is, is) refl

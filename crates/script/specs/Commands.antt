@@ -1,0 +1,55 @@
+-- What a command needs of its names, and what it binds.
+use Rattle.std.specs.Prelude.{List, Bool, true, false, Option, Some, None, Result, Ok, Err}
+use Rattle.plain_model.specs.declared.plain.Kind.{Kind}
+use Rattle.plain_model.specs.declared.kinds.ItemKind.TheVariants.{Elements}
+use Rattle.plain_model.specs.declared.commands.Command.{Command}
+use Rattle.plain_model.specs.declared.commands.Command.TheVariants as commands
+use Rattle.plain_model.specs.declared.report.CellDecl.{CellDecl}
+use Rattle.plain_model.specs.declared.names.Class.{Class}
+use Rattle.plain_model.specs.declared.names.Class.TheVariants as classes
+use Rattle.plain_model.specs.Comparers.{with_comparer}
+use Rattle.plain_model.specs.Kinds.{is_kind, items_of_kind, items_of_op, takes, answers}
+use Rattle.plain_model.specs.Names.{Name, Bindings, get, is_alike_class}
+use Rattle.script_line.specs.declared.codes.Code.{Code}
+use Rattle.script_line.specs.declared.codes.Code.TheVariants as codes
+use Rattle.script_line.specs.Codes.{◌>>=◌, ◌⊗◌, some_or}
+use Rattle.script.specs.Symbols.{Binding, kind_of_cell, collection_kind_of, contents_kind_of, source_fits}
+
+-- what a command binds, where it goes with the kinds
+abbrev pub if_fits : Bool → Option Binding → Result (Option Binding) Code
+if_fits true bound = Ok bound
+if_fits false bound = Err codes.Kind
+
+abbrev pub collection : Name → Kind → Option Binding
+collection x kind = Some (x, classes.Collection kind)
+
+-- A row for each command: its names are known and of the class that it needs, what it does goes with their kinds,
+-- and it binds this. Else the least code that applies. The commands without a row are said by no line today.
+unfoldable pub binding : List CellDecl → Bindings Class → Command → Result (Option Binding) Code
+binding cells names (commands.Update cell op) = kind_of_cell cells cell >>= λ k. if_fits (takes k op) None
+binding cells names (commands.Read cell x) = kind_of_cell cells cell >>= λ k. Ok (collection x k)
+binding cells names (commands.Publish cell x) =
+    (kind_of_cell cells cell ⊗ collection_kind_of names x) >>= λ (k, l). if_fits (is_kind k l) None
+binding cells names (commands.New x kind src from) =
+    source_fits names (items_of_kind kind) from >>= λ u. Ok (collection x kind)
+binding cells names (commands.Let y x op from) =
+    (collection_kind_of names x ⊗ source_fits names (items_of_op op) from) >>= λ (k, u). if_fits (takes k op) (collection y k)
+binding cells names (commands.Rekey y x comparer) =
+    collection_kind_of names x >>= λ k. some_or codes.Kind (with_comparer k comparer) >>= λ l. Ok (collection y l)
+binding cells names (commands.Ask x query from) =
+    (contents_kind_of names x ⊗ source_fits names Elements from) >>= λ (k, u). if_fits (answers k query) None
+binding cells names (commands.Show x) = contents_kind_of names x >>= λ k. Ok None
+binding cells names _ = Err codes.Name
+
+-- a name that is bound again keeps its class and its kind, whatever the comparer
+abbrev pub keeps_class : Option Class → Class → Bool
+keeps_class None class = true
+keeps_class (Some old) class = is_alike_class class old
+
+abbrev pub rebinds : Bindings Class → Option Binding → Result (Option Binding) Code
+rebinds names None = Ok None
+rebinds names (Some b) = if_fits (keeps_class (get names b.0) b.1) (Some b)
+
+-- what a command binds, or the least of the codes of names and of kinds
+unfoldable pub check : List CellDecl → Bindings Class → Command → Result (Option Binding) Code
+check cells names c = binding cells names c >>= rebinds names

@@ -1,0 +1,13 @@
+pub mod Codes
+pub mod Table
+pub mod Words
+pub mod Numerals
+pub mod Values
+pub mod Names
+pub mod Comparers
+pub mod Arguments
+pub mod Sources
+pub mod Contents
+pub mod Operations
+pub mod Queries
+pub mod Lines

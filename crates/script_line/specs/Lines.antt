@@ -1,0 +1,84 @@
+-- What the words of a line say, whatever stands on the other lines.
+use Rattle.std.specs.Prelude.{◌≡◌, ℕ, List, [], ◌∷◌, Bool, true, Option, Some, None, Result, Ok, Err}
+use Rattle.std.specs.Prelude.{codes as bytes}
+use Rattle.plain_model.specs.declared.commands.Command.{Command}
+use Rattle.plain_model.specs.declared.commands.Command.TheVariants as commands
+use Rattle.plain_model.specs.declared.plain.Values.{Values}
+use Rattle.plain_model.specs.Sources.{is_within, are_within, op_values, query_values}
+use Rattle.script_line.specs.declared.codes.Code.{Code}
+use Rattle.script_line.specs.declared.codes.Code.TheVariants.{Word}
+use Rattle.script_line.specs.declared.line.Keyword.{Keyword}
+use Rattle.script_line.specs.declared.line.Keyword.TheVariants as keywords
+use Rattle.script_line.specs.declared.line.Line.{Line}
+use Rattle.script_line.specs.declared.line.Line.TheVariants as lines
+use Rattle.script_line.specs.declared.sources.Scope.TheVariants as scopes
+use Rattle.script_line.specs.Codes.{◌>>=◌}
+use Rattle.script_line.specs.Table.{entry}
+use Rattle.script_line.specs.Names.{cell_name, local_name}
+use Rattle.script_line.specs.Comparers.{comparer}
+use Rattle.script_line.specs.Arguments.{no_word, one, two, three, one_and_rest}
+use Rattle.script_line.specs.Contents.{contents}
+use Rattle.script_line.specs.Operations.{op}
+use Rattle.script_line.specs.Queries.{query}
+
+-- the first words; another one is unknown
+abbrev pub keyword_of : List ℕ → Result Keyword Code
+keyword_of = entry (
+    (bytes "cell", keywords.Cell) ∷
+    (bytes "worker", keywords.Worker) ∷
+    (bytes "end", keywords.End) ∷
+    (bytes "update", keywords.Update) ∷
+    (bytes "read", keywords.Read) ∷
+    (bytes "publish", keywords.Publish) ∷
+    (bytes "new", keywords.New) ∷
+    (bytes "let", keywords.Let) ∷
+    (bytes "rekey", keywords.Rekey) ∷
+    (bytes "ask", keywords.Ask) ∷
+    (bytes "show", keywords.Show) ∷
+    [])
+
+-- a row for each first word, with the words that follow it
+abbrev pub line_of_words : Keyword → List (List ℕ) → Result Line Code
+line_of_words keywords.Cell ws =
+    one_and_rest cell_name (contents scopes.Cell) ws
+    >>= λ (n, d). Ok (lines.Cell (record { name = n; kind = d.kind; values = d.source.values }))
+line_of_words keywords.Worker ws = no_word ws >>= λ u. Ok lines.Worker
+line_of_words keywords.End ws = no_word ws >>= λ u. Ok lines.End
+line_of_words keywords.Update ws =
+    one_and_rest cell_name (op scopes.Cell) ws >>= λ (c, p). Ok (lines.Command (commands.Update c p.op))
+line_of_words keywords.Read ws = two cell_name local_name ws >>= λ (c, x). Ok (lines.Command (commands.Read c x))
+line_of_words keywords.Publish ws = two cell_name local_name ws >>= λ (c, x). Ok (lines.Command (commands.Publish c x))
+line_of_words keywords.New ws =
+    one_and_rest local_name (contents scopes.Local) ws
+    >>= λ (x, d). Ok (lines.Command (commands.New x d.kind d.source.values d.source.from))
+line_of_words keywords.Let ws =
+    one_and_rest local_name (one_and_rest local_name (op scopes.Local)) ws
+    >>= λ (y, r). Ok (lines.Command (commands.Let y r.0 r.1.op r.1.from))
+line_of_words keywords.Rekey ws =
+    three local_name local_name comparer ws >>= λ (y, r). Ok (lines.Command (commands.Rekey y r.0 r.1))
+line_of_words keywords.Ask ws =
+    one_and_rest local_name query ws >>= λ (x, a). Ok (lines.Command (commands.Ask x a.query a.from))
+line_of_words keywords.Show ws = one local_name ws >>= λ x. Ok (lines.Command (commands.Show x))
+
+abbrev pub line_of : List (List ℕ) → Result Line Code
+line_of [] = Err Word
+line_of (first ∷ words) = keyword_of first >>= λ k. line_of_words k words
+
+-- ---- the values of a line
+
+-- the values among the arguments of a command
+abbrev pub command_values : Command → Option Values
+command_values (commands.Update cell op) = op_values op
+command_values (commands.New x kind src from) = Some src
+command_values (commands.Let y x op from) = op_values op
+command_values (commands.Ask x query from) = query_values query
+command_values _ = None
+
+-- the integers of each sequence are below 2^63
+abbrev pub line_is_within : Line → Bool
+line_is_within (lines.Cell cell) = is_within cell.values
+line_is_within (lines.Command c) = are_within (command_values c)
+line_is_within _ = true
+
+pub record IsWithin (line : Line) : Type 0 where
+  pub within : line_is_within line ≡ true

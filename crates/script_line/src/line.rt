@@ -1,0 +1,252 @@
+//! What the words of a line say, whatever stands on the other lines.
+
+ghost use Rattle.std.specs.Prelude.{◌≡◌, IfOk};
+ghost use Rattle.std.specs.Option.{option_copied};
+ghost use Rattle.script_line.specs.Words.{bytes_of};
+ghost use Rattle.script_line.specs.Names.{cell_name, local_name};
+ghost use Rattle.script_line.specs.Comparers.{comparer};
+ghost use Rattle.script_line.specs.Contents.{contents};
+ghost use Rattle.script_line.specs.Operations.{op};
+ghost use Rattle.script_line.specs.Queries.{query};
+ghost use Rattle.script_line.specs.Arguments.{one_and_rest, three};
+ghost use Rattle.script_line.specs.declared.sources.Scope.TheVariants as scopes;
+ghost use Rattle.script_line.specs.Lines.{keyword_of, line_of_words, line_of, IsWithin, command_values};
+
+use crate::arguments::{cell_and_local_name, no_word, one_local_name};
+use crate::codes::{Code, both_or_least};
+use crate::comparers::comparer;
+use crate::contents::{KindWithSource, contents};
+use crate::names::{cell_name, local_name};
+use crate::operations::{OpWithSource, op};
+use crate::queries::{QueryWithSource, query};
+use crate::sources::Scope;
+use crate::table::entry;
+use imm_base::{Memory, Text24};
+use plain_model::{CellDecl, Command, Comparer, Values};
+use std::alloc::Global;
+
+/// A line with its arguments read.
+#[derive(Drop)]
+pub enum Line {
+    Cell(CellDecl),
+    Worker,
+    Command(Command),
+    End,
+}
+
+/// The first word of a line.
+#[derive(Clone, Copy)]
+pub(crate) enum Keyword {
+    Cell,
+    Worker,
+    End,
+    Update,
+    Read,
+    Publish,
+    New,
+    Let,
+    Rekey,
+    Ask,
+    Show,
+}
+
+const KEYWORDS: [(&[u8], Keyword); 11] = [
+    (b"cell", Keyword::Cell),
+    (b"worker", Keyword::Worker),
+    (b"end", Keyword::End),
+    (b"update", Keyword::Update),
+    (b"read", Keyword::Read),
+    (b"publish", Keyword::Publish),
+    (b"new", Keyword::New),
+    (b"let", Keyword::Let),
+    (b"rekey", Keyword::Rekey),
+    (b"ask", Keyword::Ask),
+    (b"show", Keyword::Show),
+];
+
+fn keyword_of(word: &[u8]) -> Result<Keyword, Code>
+    ensures { result ≡ keyword_of word.now }
+{
+    entry(&KEYWORDS, word)
+}
+
+fn cell_and_contents(
+    alloc: Global,
+    words: &[&[u8]],
+) -> Result<Result<(Text24, KindWithSource), Code>, Memory>
+    ensures { IfOk result (λ read. read
+        ≡ one_and_rest cell_name (contents scopes.Cell) (bytes_of words.now)) }
+{
+    match words {
+        [c, rest @ ..] => {
+            let contents = contents(alloc, Scope::Cell, rest)?;
+            Ok(both_or_least(cell_name(c), contents))
+        }
+        [] => Ok(Err(Code::Word)),
+    }
+}
+
+fn cell_and_op(
+    alloc: Global,
+    words: &[&[u8]],
+) -> Result<Result<(Text24, OpWithSource), Code>, Memory>
+    ensures { IfOk result (λ read. read
+        ≡ one_and_rest cell_name (op scopes.Cell) (bytes_of words.now)) }
+{
+    match words {
+        [c, rest @ ..] => {
+            let op = op(alloc, Scope::Cell, rest)?;
+            Ok(both_or_least(cell_name(c), op))
+        }
+        [] => Ok(Err(Code::Word)),
+    }
+}
+
+fn name_and_contents(
+    alloc: Global,
+    words: &[&[u8]],
+) -> Result<Result<(Text24, KindWithSource), Code>, Memory>
+    ensures { IfOk result (λ read. read
+        ≡ one_and_rest local_name (contents scopes.Local) (bytes_of words.now)) }
+{
+    match words {
+        [x, rest @ ..] => {
+            let contents = contents(alloc, Scope::Local, rest)?;
+            Ok(both_or_least(local_name(x), contents))
+        }
+        [] => Ok(Err(Code::Word)),
+    }
+}
+
+fn name_and_op(
+    alloc: Global,
+    words: &[&[u8]],
+) -> Result<Result<(Text24, OpWithSource), Code>, Memory>
+    ensures { IfOk result (λ read. read
+        ≡ one_and_rest local_name (op scopes.Local) (bytes_of words.now)) }
+{
+    match words {
+        [x, rest @ ..] => {
+            let op = op(alloc, Scope::Local, rest)?;
+            Ok(both_or_least(local_name(x), op))
+        }
+        [] => Ok(Err(Code::Word)),
+    }
+}
+
+fn two_names_and_op(
+    alloc: Global,
+    words: &[&[u8]],
+) -> Result<Result<(Text24, (Text24, OpWithSource)), Code>, Memory>
+    ensures { IfOk result (λ read. read
+        ≡ one_and_rest local_name (one_and_rest local_name (op scopes.Local)) (bytes_of words.now)) }
+{
+    match words {
+        [y, rest @ ..] => {
+            let old_and_op = name_and_op(alloc, rest)?;
+            Ok(both_or_least(local_name(y), old_and_op))
+        }
+        [] => Ok(Err(Code::Word)),
+    }
+}
+
+fn two_names_and_comparer(words: &[&[u8]]) -> Result<(Text24, (Text24, Comparer)), Code>
+    ensures { result ≡ three local_name local_name comparer (bytes_of words.now) }
+{
+    match words {
+        [y, x, c] => both_or_least(local_name(y), both_or_least(local_name(x), comparer(c))),
+        _ => Err(Code::Word),
+    }
+}
+
+fn name_and_query(
+    alloc: Global,
+    words: &[&[u8]],
+) -> Result<Result<(Text24, QueryWithSource), Code>, Memory>
+    ensures { IfOk result (λ read. read
+        ≡ one_and_rest local_name query (bytes_of words.now)) }
+{
+    match words {
+        [x, rest @ ..] => {
+            let query = query(alloc, rest)?;
+            Ok(both_or_least(local_name(x), query))
+        }
+        [] => Ok(Err(Code::Word)),
+    }
+}
+
+/// What a line says, by its first word and the words behind it.
+fn line_of_words(
+    alloc: Global,
+    keyword: Keyword,
+    words: &[&[u8]],
+) -> Result<Result<Line, Code>, Memory>
+    ensures { IfOk result (λ read. read ≡ line_of_words keyword (bytes_of words.now)) }
+{
+    match keyword {
+        Keyword::Cell => Ok(cell_and_contents(alloc, words)?.map(|(name, contents)| Line::Cell(
+            CellDecl {
+                name,
+                kind: contents.kind,
+                values: contents.source.values,
+            },
+        ))),
+        Keyword::Worker => Ok(no_word(words).map(|()| Line::Worker)),
+        Keyword::End => Ok(no_word(words).map(|()| Line::End)),
+        Keyword::Update => Ok(cell_and_op(alloc, words)?.map(|(cell, op)| Line::Command(
+            Command::Update(cell, op.op),
+        ))),
+        Keyword::Read => Ok(cell_and_local_name(words).map(|(cell, name)| Line::Command(
+            Command::Read(cell, name),
+        ))),
+        Keyword::Publish => Ok(cell_and_local_name(words).map(|(cell, name)| Line::Command(
+            Command::Publish(cell, name),
+        ))),
+        Keyword::New => Ok(name_and_contents(alloc, words)?.map(|(name, contents)| Line::Command(
+            Command::New(
+                name,
+                contents.kind,
+                contents.source.values,
+                contents.source.from,
+            ),
+        ))),
+        Keyword::Let => Ok(two_names_and_op(alloc, words)?.map(|(new, (old, op))| Line::Command(
+            Command::Let(new, old, op.op, op.from),
+        ))),
+        Keyword::Rekey => Ok(two_names_and_comparer(words).map(|(new, (old, comparer))| {
+            Line::Command(Command::Rekey(new, old, comparer))
+        })),
+        Keyword::Ask => Ok(name_and_query(alloc, words)?.map(|(name, asked)| Line::Command(
+            Command::Ask(name, asked.query, asked.from),
+        ))),
+        Keyword::Show => Ok(one_local_name(words).map(|name| Line::Command(Command::Show(name)))),
+    }
+}
+
+/// What a line says, by its words, in O(n) for n bytes.
+pub fn line_of(alloc: Global, words: &[&[u8]]) -> Result<Result<Line, Code>, Memory>
+    ensures read { IfOk result (λ read. read ≡ line_of (bytes_of words.now)) }
+    // The integers of a sequence are integers of 64 bits.
+    ensures within { IfOk result (λ read. IfOk read IsWithin) }
+{
+    match words {
+        [] => Ok(Err(Code::Word)),
+        [first, rest @ ..] => match keyword_of(first) {
+            Ok(keyword) => line_of_words(alloc, keyword, rest),
+            Err(code) => Ok(Err(code)),
+        },
+    }
+}
+
+/// The values among the arguments of a command, if it has some.
+pub fn command_values(command: &Command) -> Option<&Values>
+    ensures { option_copied result ≡ command_values command.now }
+{
+    match command {
+        Command::Update(_, op) => op.values(),
+        Command::New(_, _, values, _) => Some(values),
+        Command::Let(_, _, op, _) => op.values(),
+        Command::Ask(_, query, _) => query.values(),
+        _ => None,
+    }
+}

@@ -1,0 +1,5 @@
+pub mod Keeps
+pub mod Turning
+pub mod Joins
+pub mod Chains
+pub mod AtHome

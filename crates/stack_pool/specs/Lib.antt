@@ -1,0 +1,9 @@
+pub mod Places
+pub mod Pools
+pub mod PoolLends
+pub mod Views
+pub mod Rule
+pub mod Steps
+pub mod Calls
+pub mod Seats
+pub mod HeldLends
