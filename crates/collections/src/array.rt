@@ -17,7 +17,7 @@ use crate::of_kind::{Changed, Judged, OfKind, judged};
 use imm_array::{ArrayFault, ImmArray};
 use imm_base::{Edit, Memory, Val};
 use imm_list::{ImmList, ListFault};
-use plain_model::{Answer, Comparer, Kind, Listed, PlainOp, Query, Refusal, Values};
+use plain_model::{Answer, Kind, Listed, PlainOp, Query, Refusal, Values};
 use std::alloc::Global;
 
 type Array = ImmArray<Val>;
@@ -54,10 +54,6 @@ impl OfKind for Array {
             count: self.count(),
             first: Values::List(Listed::from_vec(first_in(alloc, self.as_slice())?)),
         })
-    }
-
-    fn rekeyed(&self, _alloc: Global, _comparer: Comparer) -> Changed<Array> {
-        unreachable!()
     }
 }
 

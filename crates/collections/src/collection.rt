@@ -11,7 +11,7 @@ use crate::array::array_of_values;
 use crate::dict::dict_of_values;
 use crate::hash_set::hash_set_of_values;
 use crate::list::list_of_values;
-use crate::of_kind::{Changed, Judged, OfKind};
+use crate::of_kind::{Changed, HasComparer, Judged, OfKind};
 use crate::queue::queue_of_values;
 use crate::sorted_map::map_of_values;
 use crate::sorted_set::set_of_values;
@@ -241,14 +241,12 @@ impl Collection {
             IfOk result (λ c. c ≡ rekeyed_by comparer kind self.now) }
     {
         Ok(match &self.repr {
-            Repr::List(list) => change_of_any_kind(list.rekeyed(alloc, comparer)?),
-            Repr::Array(array) => change_of_any_kind(array.rekeyed(alloc, comparer)?),
-            Repr::Stack(stack) => change_of_any_kind(stack.rekeyed(alloc, comparer)?),
-            Repr::Queue(queue) => change_of_any_kind(queue.rekeyed(alloc, comparer)?),
             Repr::SSet(set) => change_of_any_kind(set.rekeyed(alloc, comparer)?),
             Repr::SMap(map) => change_of_any_kind(map.rekeyed(alloc, comparer)?),
             Repr::HSet(set) => change_of_any_kind(set.rekeyed(alloc, comparer)?),
             Repr::Dict(dict) => change_of_any_kind(dict.rekeyed(alloc, comparer)?),
+            // These have no comparer.
+            Repr::List(_) | Repr::Array(_) | Repr::Stack(_) | Repr::Queue(_) => unreachable!(),
         })
     }
 }

@@ -12,7 +12,7 @@ use crate::Collection;
 use crate::answers::{first_in, value_or_none};
 use crate::collection::Repr;
 use crate::elements::{elements, pairs};
-use crate::of_kind::{Changed, Judged, OfKind, judged, or_unchanged};
+use crate::of_kind::{Changed, HasComparer, Judged, OfKind, judged, or_unchanged};
 use imm_base::{Edit, MapFault, Memory, Val, ValEq};
 use imm_dictionary::Dict;
 use plain_model::{Answer, Comparer, Kind, Listed, PlainOp, Query, Values};
@@ -50,7 +50,9 @@ impl OfKind for Map {
             first: Values::Pairs(Listed::from_vec(first_in(alloc, pairs.as_slice())?)),
         })
     }
+}
 
+impl HasComparer for Map {
     fn rekeyed(&self, alloc: Global, comparer: Comparer) -> Changed<Map> {
         match comparer.equality() {
             Some(eq) => judged(self.with_comparer(alloc, eq)),

@@ -14,7 +14,7 @@ use crate::Collection;
 use crate::answers::{first_in, value_or_none};
 use crate::collection::Repr;
 use crate::elements::elements;
-use crate::of_kind::{Changed, Judged, OfKind, judged, or_unchanged};
+use crate::of_kind::{Changed, HasComparer, Judged, OfKind, judged, or_unchanged};
 use imm_base::{Edit, Memory, SetFault, SetTest, Val, ValEq};
 use imm_dictionary::ImmHashSet;
 use plain_model::{Answer, Comparer, Kind, Listed, PlainOp, Query, Values};
@@ -52,7 +52,9 @@ impl OfKind for Set {
             first: Values::List(Listed::from_vec(first_in(alloc, elements.as_slice())?)),
         })
     }
+}
 
+impl HasComparer for Set {
     fn rekeyed(&self, alloc: Global, comparer: Comparer) -> Changed<Set> {
         match comparer.equality() {
             Some(eq) => judged(self.with_comparer(alloc, eq)),

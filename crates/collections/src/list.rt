@@ -14,7 +14,7 @@ use crate::elements::elements;
 use crate::of_kind::{Changed, Judged, OfKind, judged};
 use imm_base::{Edit, Memory, Val, ValOrder};
 use imm_list::{ImmList, ListFault};
-use plain_model::{Answer, Comparer, Kind, Listed, PlainOp, Query, Refusal, Values};
+use plain_model::{Answer, Kind, Listed, PlainOp, Query, Refusal, Values};
 use std::alloc::Global;
 
 type List = ImmList<Val>;
@@ -47,10 +47,6 @@ impl OfKind for List {
             count: self.count(),
             first: Values::List(Listed::from_vec(first_of(alloc, self.tree())?)),
         })
-    }
-
-    fn rekeyed(&self, _alloc: Global, _comparer: Comparer) -> Changed<List> {
-        unreachable!()
     }
 }
 

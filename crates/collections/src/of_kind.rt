@@ -51,12 +51,15 @@ pub(crate) trait OfKind: Sized + Drop {
     /// The count, and copies of the first elements or pairs.
     fn preview(&self, alloc: Global) -> Result<Answer, Memory>
         ensures { IfOk result (λ a. a ≡ shown (as_plain self.now).values) };
+}
 
+/// A collection of a kind that has a comparer.
+pub(crate) trait HasComparer: OfKind {
     /// The collection under another comparer, which its kind may have.
     fn rekeyed(&self, alloc: Global, comparer: Comparer) -> Changed<Self>
-        requires { is_some (with_comparer (as_plain self.now).kind comparer) ≡ true }
-        ensures { (kind : Kind) → with_comparer (as_plain self.now).kind comparer ≡ Some kind →
-            IfOk result (λ c. change_map as_plain c ≡ rekeyed_by comparer kind (as_plain self.now)) };
+        requires { is_some (with_comparer (Self.as_plain self.now).kind comparer) ≡ true }
+        ensures { (kind : Kind) → with_comparer (Self.as_plain self.now).kind comparer ≡ Some kind →
+            IfOk result (λ c. change_map Self.as_plain c ≡ rekeyed_by comparer kind (Self.as_plain self.now)) };
 }
 
 /// What a call of a crate of collections comes to.

@@ -14,7 +14,7 @@ use crate::Collection;
 use crate::answers::{first_of, keys, value_or_none, values};
 use crate::collection::Repr;
 use crate::elements::{elements, pairs};
-use crate::of_kind::{Changed, Judged, OfKind, judged, or_unchanged};
+use crate::of_kind::{Changed, HasComparer, Judged, OfKind, judged, or_unchanged};
 use imm_base::{Edit, MapFault, Memory, Pair, Val, ValOrder};
 use plain_model::{Answer, Comparer, Kind, Listed, PlainOp, Query, Values};
 use sorted_maps::SortedMap;
@@ -51,7 +51,9 @@ impl OfKind for Map {
             first: Values::Pairs(Listed::from_vec(first_pairs(alloc, self)?)),
         })
     }
+}
 
+impl HasComparer for Map {
     fn rekeyed(&self, alloc: Global, comparer: Comparer) -> Changed<Map> {
         match comparer.order() {
             Some(order) => judged(self.with_order(alloc, order)),

@@ -14,7 +14,7 @@ use crate::Collection;
 use crate::answers::{first_of, value_or, value_or_none};
 use crate::collection::Repr;
 use crate::elements::elements;
-use crate::of_kind::{Changed, Judged, OfKind, judged, or_unchanged};
+use crate::of_kind::{Changed, HasComparer, Judged, OfKind, judged, or_unchanged};
 use imm_base::{Edit, Memory, SetFault, SetTest, Val, ValOrder};
 use plain_model::{Answer, Comparer, Kind, Listed, PlainOp, Query, Refusal, Values};
 use sorted_sets::SortedSet;
@@ -51,7 +51,9 @@ impl OfKind for Set {
             first: Values::List(Listed::from_vec(first_of(alloc, self.tree())?)),
         })
     }
+}
 
+impl HasComparer for Set {
     fn rekeyed(&self, alloc: Global, comparer: Comparer) -> Changed<Set> {
         match comparer.order() {
             Some(order) => judged(self.with_order(alloc, order)),

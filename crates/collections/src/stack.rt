@@ -18,7 +18,7 @@ use crate::collection::Repr;
 use crate::elements::elements;
 use crate::of_kind::{Changed, Judged, OfKind, judged};
 use imm_base::{Edit, LIMIT, Memory, Val};
-use plain_model::{Answer, Comparer, Kind, Listed, PlainOp, Query, Refusal, Values};
+use plain_model::{Answer, Kind, Listed, PlainOp, Query, Refusal, Values};
 use queue_stack::{EndFault, ImmStack};
 use std::alloc::Global;
 
@@ -53,10 +53,6 @@ impl OfKind for Stack {
             count: self.count(),
             first: Values::List(Listed::from_vec(first_in(alloc, elements.as_slice())?)),
         })
-    }
-
-    fn rekeyed(&self, _alloc: Global, _comparer: Comparer) -> Changed<Stack> {
-        unreachable!()
     }
 }
 

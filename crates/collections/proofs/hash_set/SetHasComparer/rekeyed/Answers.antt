@@ -9,7 +9,7 @@ use Rattle.hash_bucket.specs.Hashed.{Hashed}
 use Rattle.plain_model.specs.declared.plain.Kind.TheVariants as kinds
 use Rattle.collections.proofs.Sets.{set_judged}
 use Rattle.collections.proofs.HashSets.{set_rekeyed}
-use Rattle.collections.proofs.hash_set.SetOfKind.rekeyed.Goals as goal
+use Rattle.collections.proofs.hash_set.SetHasComparer.rekeyed.Goals as goal
 
 pub returns : goal.returns
 returns c = λ kind is.

@@ -10,7 +10,7 @@ use Rattle.sorted_maps.specs.Ordered.{Ordered}
 use Rattle.plain_model.specs.declared.plain.Kind.TheVariants as kinds
 use Rattle.collections.proofs.Maps.{map_judged}
 use Rattle.collections.proofs.SortedMaps.{map_rekeyed}
-use Rattle.collections.proofs.sorted_map.MapOfKind.rekeyed.Goals as goal
+use Rattle.collections.proofs.sorted_map.MapHasComparer.rekeyed.Goals as goal
 
 pub returns : goal.returns
 returns c = λ kind is.

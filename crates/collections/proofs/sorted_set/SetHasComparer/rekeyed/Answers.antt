@@ -10,7 +10,7 @@ use Rattle.sorted_sets.specs.Ordered.{Ordered}
 use Rattle.plain_model.specs.declared.plain.Kind.TheVariants as kinds
 use Rattle.collections.proofs.Sets.{set_judged}
 use Rattle.collections.proofs.SortedSets.{set_rekeyed}
-use Rattle.collections.proofs.sorted_set.SetOfKind.rekeyed.Goals as goal
+use Rattle.collections.proofs.sorted_set.SetHasComparer.rekeyed.Goals as goal
 
 pub returns : goal.returns
 returns c = λ kind is.

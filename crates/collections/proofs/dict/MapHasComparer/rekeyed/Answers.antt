@@ -9,7 +9,7 @@ use Rattle.imm_dictionary.specs.Mapped.{Mapped}
 use Rattle.plain_model.specs.declared.plain.Kind.TheVariants as kinds
 use Rattle.collections.proofs.Maps.{map_judged}
 use Rattle.collections.proofs.Dicts.{map_rekeyed}
-use Rattle.collections.proofs.dict.MapOfKind.rekeyed.Goals as goal
+use Rattle.collections.proofs.dict.MapHasComparer.rekeyed.Goals as goal
 
 pub returns : goal.returns
 returns c = λ kind is.
