@@ -27,7 +27,10 @@ pub fn serve<R: Wait>(
 
 /// Two callers serve one port, and the cell is closed. The answer is what the second was told, and how
 /// many routes there are.
-pub fn served_by_two<R: Wait>(rt: &R, alloc: Global) -> Result<(Result<Reply, Memory>, u32), Memory> {
+pub fn served_by_two<R: Wait>(
+    rt: &R,
+    alloc: Global,
+) -> Result<(Result<Reply, Memory>, u32), Memory> {
     let (cell, mut passes) = ImmCell::make(alloc, 2, Routes::new(ValEq::Ordinal))?;
     let _ = serve(rt, alloc, &cell, &mut passes[0], Val::Int(80), Val::Int(1));
     let told = serve(rt, alloc, &cell, &mut passes[1], Val::Int(80), Val::Int(2));

@@ -1,5 +1,5 @@
 //! Lists, and what a caller proves of a change.
-ghost use Rattle.std.specs.Prelude.{◌∷◌, ◌≡◌, ◌++◌, [], IfOk};
+ghost use Rattle.std.specs.Prelude.{◌∷◌, ◌≡◌, ◌++◌, [], IfOk, false};
 
 use imm_base::{Edit, Val};
 use imm_list::{ImmList, ListFault};
@@ -32,26 +32,26 @@ pub fn without_port(
     }
 }
 
-/// The port at a place, or the greatest place that there is.
-pub fn port_near(ports: &ImmList<Val>, place: u32) -> Option<Val> {
+/// The port at a place, or how many ports there are.
+pub fn port_at(ports: &ImmList<Val>, place: u32) -> Result<Val, u32> {
     match ports.get(place) {
-        Ok(port) => Some(*port),
-        Err(ListFault::OutOfRange { count, .. }) if count > 0 => ports.get(count - 1).copied().ok(),
-        Err(_) => None,
+        Ok(port) => Ok(*port),
+        Err(ListFault::OutOfRange { count, .. }) => Err(count),
+        Err(_) => unreachable!(),
     }
 }
 
-/// Adds the port to the variable if there is room and memory for it. Where there is not, the list in
-/// the variable is as it was.
-pub fn open_port(alloc: Global, ports: &mut ImmList<Val>, port: Val) -> bool {
+/// Adds the port to the list in the variable, and says whether it did. Where there is no room or no
+/// memory, that list is as it was.
+pub fn open_port(alloc: Global, ports: &mut ImmList<Val>, port: Val) -> bool
+    ensures { result ≡ false → ports.new ≡ ports.old }
+{
     match ports.add(alloc, port) {
         Ok(Edit::New(longer)) => {
             *ports = longer;
             true
         }
-        Ok(Edit::Same) => true,
-        Err(ListFault::Memory) => false,
-        Err(_) => false,
+        Ok(Edit::Same) | Err(_) => false,
     }
 }
 

@@ -17,7 +17,7 @@ fn show_lists(rt: &impl Print, alloc: Global) -> io::Result<()> {
     println!(rt; "published: {:?}", building::published(alloc))?;
     match lists::first_ports(alloc) {
         Ok(mut ports) => {
-            println!(rt; "near 7: {:?}", lists::port_near(&ports, 7))?;
+            println!(rt; "place 7: {:?}", lists::port_at(&ports, 7))?;
             println!(rt; "sum: {:?}", walking::sum_of(alloc, &mut ports))
         }
         Err(fault) => println!(rt; "ports: {fault:?}"),
