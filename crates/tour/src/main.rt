@@ -1,12 +1,9 @@
 //! A tour of the library. Each piece of code in docs/library.md is a function of this crate.
 #![tactic(auto)]
 
-mod building;
-mod cells;
 mod lists;
 mod maps;
 mod sharing;
-mod walking;
 
 use imm_base::{Val, ValEq};
 use std::alloc::Global;
@@ -14,12 +11,8 @@ use std::io;
 
 fn show_lists(rt: &impl Print, alloc: Global) -> io::Result<()> {
     println!(rt; "counts: {:?}", lists::counts(alloc))?;
-    println!(rt; "published: {:?}", building::published(alloc))?;
     match lists::first_ports(alloc) {
-        Ok(mut ports) => {
-            println!(rt; "place 7: {:?}", lists::port_at(&ports, 7))?;
-            println!(rt; "sum: {:?}", walking::sum_of(alloc, &mut ports))
-        }
+        Ok(ports) => println!(rt; "place 7: {:?}", lists::port_at(&ports, 7)),
         Err(fault) => println!(rt; "ports: {fault:?}"),
     }
 }
@@ -29,7 +22,6 @@ fn main(rt: HostRuntime) -> io::Result<()> {
     show_lists(&rt, alloc)?;
     println!(rt; "pools: {:?}", maps::pools(alloc))?;
     println!(rt; "frozen: {:?}", maps::frozen_pool(alloc))?;
-    println!(rt; "told: {:?}", cells::served_by_two(&rt, alloc))?;
     let none = maps::Routes::new(ValEq::Ordinal);
     match maps::get_or_add(alloc, &none, Val::Int(80), Val::Int(1)) {
         Ok((routes, _)) => {
