@@ -40,7 +40,7 @@ const ROUNDS: u32 = 7;
 
 // What is printed.
 #[derive(Clone, Copy)]
-enum Show {
+enum Output {
     // What each row comes to, at the least size.
     Sums,
     Times(Row),
@@ -103,16 +103,16 @@ fn show_time<C: Measured>(
     println!(rt; "{name} of {count}: {least} ns")
 }
 
-fn show<C: Measured>(rt: &(impl Print + CpuClock), alloc: Global, what: Show) -> io::Result<()> {
+fn show<C: Measured>(rt: &(impl Print + CpuClock), alloc: Global, what: Output) -> io::Result<()> {
     match what {
-        Show::Sums => show_sums::<C>(rt, alloc),
-        Show::Times(row) => {
+        Output::Sums => show_sums::<C>(rt, alloc),
+        Output::Times(row) => {
             for count in SIZES {
                 show_time::<C>(rt, alloc, row, count)?;
             }
             Ok(())
         }
-        Show::BuilderTimes => Ok(()),
+        Output::BuilderTimes => Ok(()),
     }
 }
 
@@ -175,12 +175,12 @@ fn show_phase_time<B: Built>(
 fn show_builder<B: Built>(
     rt: &(impl Print + CpuClock),
     alloc: Global,
-    what: Show,
+    what: Output,
 ) -> io::Result<()> {
     match what {
-        Show::Sums => show_phases::<B>(rt, alloc),
-        Show::Times(_) => Ok(()),
-        Show::BuilderTimes => {
+        Output::Sums => show_phases::<B>(rt, alloc),
+        Output::Times(_) => Ok(()),
+        Output::BuilderTimes => {
             for count in BUILT_SIZES {
                 for phase in PHASES {
                     show_phase_time::<B>(rt, alloc, phase, count)?;
@@ -191,7 +191,7 @@ fn show_builder<B: Built>(
     }
 }
 
-fn show_all(rt: &(impl Print + CpuClock), alloc: Global, what: Show) -> io::Result<()> {
+fn show_all(rt: &(impl Print + CpuClock), alloc: Global, what: Output) -> io::Result<()> {
     show::<ImmList<Val>>(rt, alloc, what)?;
     show::<SortedSet<Val, ValOrder>>(rt, alloc, what)?;
     show::<SortedMap<Val, Val, ValOrder>>(rt, alloc, what)?;
@@ -209,13 +209,13 @@ fn show_all(rt: &(impl Print + CpuClock), alloc: Global, what: Show) -> io::Resu
 }
 
 // What the word asks for.
-fn asked(word: &str) -> Option<Show> {
+fn asked(word: &str) -> Option<Output> {
     if word == "builders" {
-        return Some(Show::BuilderTimes);
+        return Some(Output::BuilderTimes);
     }
     for row in ROWS {
         if word == row.word() {
-            return Some(Show::Times(row));
+            return Some(Output::Times(row));
         }
     }
     None
@@ -224,7 +224,7 @@ fn asked(word: &str) -> Option<Show> {
 fn main(rt: HostRuntime) -> io::Result<()> {
     let word = env::args(&rt)?.nth(1);
     let what = match &word {
-        None => Some(Show::Sums),
+        None => Some(Output::Sums),
         Some(word) => asked(word.as_str()),
     };
     match what {
