@@ -1,27 +1,22 @@
-//! Works on collections of every kind and on builders, and prints what their calls come to. With the
-//! word of a row (`build`, `add`, `lookup`, `remove`, `set`, `iterate`, `builders`) it prints, for each
-//! kind that has such a call and for each size, how many nanoseconds of processor time an operation
-//! of this row takes: the least of several rounds.
+//! Works on collections of every kind, and prints what their calls come to. With the word of a row
+//! (`build`, `add`, `lookup`, `remove`, `set`, `iterate`) it prints, for each kind that has such a call
+//! and for each size, how many nanoseconds of processor time an operation of this row takes: the
+//! least of several rounds.
 #![tactic(auto)]
 
-mod built;
 mod ends;
 mod lists;
 mod maps;
 mod measured;
-mod phases;
 mod row;
 mod sets;
 
-use builders::{DictBuilder, HashSetBuilder, ListBuilder, MapBuilder, SetBuilder};
-use built::Built;
 use frozen_sets::FrozenMap;
 use imm_array::ImmArray;
 use imm_base::{Memory, Val, ValEq, ValOrder};
 use imm_dictionary::{Dict, ImmHashSet};
 use imm_list::ImmList;
 use measured::{Measured, value_of};
-use phases::{PHASES, Phase, go_on};
 use queue_stack::{ImmQueue, ImmStack};
 use row::{ROWS, Row, work};
 use sorted_maps::SortedMap;
@@ -33,19 +28,7 @@ use std::{env, io};
 // How many elements there are: room is left for one more.
 const SIZES: [u32; 3] = [999, 16_383, 65_535];
 
-// How many elements builders come to.
-const BUILT_SIZES: [u32; 2] = [16_384, 65_536];
-
 const ROUNDS: u32 = 7;
-
-// What is printed.
-#[derive(Clone, Copy)]
-enum Output {
-    // What each row comes to, at the least size.
-    Sums,
-    Times(Row),
-    BuilderTimes,
-}
 
 fn values_up_to(alloc: Global, count: u32) -> Result<Vec<Val>, Memory> {
     let mut values = Vec::new(alloc);
@@ -103,132 +86,51 @@ fn show_time<C: Measured>(
     println!(rt; "{name} of {count}: {least} ns")
 }
 
-fn show<C: Measured>(rt: &(impl Print + CpuClock), alloc: Global, what: Output) -> io::Result<()> {
-    match what {
-        Output::Sums => show_sums::<C>(rt, alloc),
-        Output::Times(row) => {
+// What each row comes to, or how long a row takes.
+fn show<C: Measured>(
+    rt: &(impl Print + CpuClock),
+    alloc: Global,
+    timed: Option<Row>,
+) -> io::Result<()> {
+    match timed {
+        None => show_sums::<C>(rt, alloc),
+        Some(row) => {
             for count in SIZES {
                 show_time::<C>(rt, alloc, row, count)?;
             }
             Ok(())
         }
-        Output::BuilderTimes => Ok(()),
     }
 }
 
-fn show_phases<B: Built>(rt: &impl Print, alloc: Global) -> io::Result<()> {
-    let name = B::NAME;
-    let Some(mut builder) = B::start() else {
-        return println!(rt; "{name} builder: no memory");
-    };
-    for phase in PHASES {
-        let Some(sum) = go_on(alloc, phase, &mut builder, SIZES[0]) else {
-            return println!(rt; "{name} builder: no memory");
-        };
-        let word = phase.name();
-        println!(rt; "{name} builder {word}: {sum}")?;
-    }
-    Ok(())
+fn show_all(rt: &(impl Print + CpuClock), alloc: Global, timed: Option<Row>) -> io::Result<()> {
+    show::<ImmList<Val>>(rt, alloc, timed)?;
+    show::<SortedSet<Val, ValOrder>>(rt, alloc, timed)?;
+    show::<SortedMap<Val, Val, ValOrder>>(rt, alloc, timed)?;
+    show::<Dict<Val, Val, ValEq>>(rt, alloc, timed)?;
+    show::<ImmHashSet<Val, ValEq>>(rt, alloc, timed)?;
+    show::<ImmStack<Val>>(rt, alloc, timed)?;
+    show::<ImmQueue<Val>>(rt, alloc, timed)?;
+    show::<ImmArray<Val>>(rt, alloc, timed)?;
+    show::<FrozenMap<Val>>(rt, alloc, timed)
 }
 
-// How long the phase takes a builder that has gone through those before it.
-fn phase_time<B: Built>(
-    rt: &impl CpuClock,
-    alloc: Global,
-    last: Phase,
-    count: u32,
-) -> io::Result<Option<Duration>> {
-    let Some(mut builder) = B::start() else {
-        return Ok(None);
-    };
-    for phase in PHASES {
-        let start = rt.thread_cpu_time()?;
-        let came_to = go_on(alloc, phase, &mut builder, count);
-        let spent = rt.thread_cpu_time()?.saturating_sub(start);
-        if came_to.is_none() {
-            return Ok(None);
-        }
-        if phase == last {
-            return Ok(Some(spent));
-        }
-    }
-    Ok(None)
-}
-
-fn show_phase_time<B: Built>(
-    rt: &(impl Print + CpuClock),
-    alloc: Global,
-    phase: Phase,
-    count: u32,
-) -> io::Result<()> {
-    let (name, word) = (B::NAME, phase.name());
-    let mut least = u64::MAX;
-    for _ in 0..ROUNDS {
-        let Some(spent) = phase_time::<B>(rt, alloc, phase, count)? else {
-            return println!(rt; "{name} builder: no memory");
-        };
-        least = least.min(nanos_each(spent, phase.operations(count)));
-    }
-    println!(rt; "{name} builder of {count}, {word}: {least} ns")
-}
-
-fn show_builder<B: Built>(
-    rt: &(impl Print + CpuClock),
-    alloc: Global,
-    what: Output,
-) -> io::Result<()> {
-    match what {
-        Output::Sums => show_phases::<B>(rt, alloc),
-        Output::Times(_) => Ok(()),
-        Output::BuilderTimes => {
-            for count in BUILT_SIZES {
-                for phase in PHASES {
-                    show_phase_time::<B>(rt, alloc, phase, count)?;
-                }
-            }
-            Ok(())
-        }
-    }
-}
-
-fn show_all(rt: &(impl Print + CpuClock), alloc: Global, what: Output) -> io::Result<()> {
-    show::<ImmList<Val>>(rt, alloc, what)?;
-    show::<SortedSet<Val, ValOrder>>(rt, alloc, what)?;
-    show::<SortedMap<Val, Val, ValOrder>>(rt, alloc, what)?;
-    show::<Dict<Val, Val, ValEq>>(rt, alloc, what)?;
-    show::<ImmHashSet<Val, ValEq>>(rt, alloc, what)?;
-    show::<ImmStack<Val>>(rt, alloc, what)?;
-    show::<ImmQueue<Val>>(rt, alloc, what)?;
-    show::<ImmArray<Val>>(rt, alloc, what)?;
-    show::<FrozenMap<Val>>(rt, alloc, what)?;
-    show_builder::<ListBuilder<Val>>(rt, alloc, what)?;
-    show_builder::<SetBuilder<Val, ValOrder>>(rt, alloc, what)?;
-    show_builder::<MapBuilder<Val, Val, ValOrder>>(rt, alloc, what)?;
-    show_builder::<DictBuilder<Val, Val, ValEq>>(rt, alloc, what)?;
-    show_builder::<HashSetBuilder<Val, ValEq>>(rt, alloc, what)
-}
-
-// What the word asks for.
-fn asked(word: &str) -> Option<Output> {
-    if word == "builders" {
-        return Some(Output::BuilderTimes);
-    }
+// The row of the word.
+fn row_of(word: &str) -> Option<Row> {
     for row in ROWS {
         if word == row.word() {
-            return Some(Output::Times(row));
+            return Some(row);
         }
     }
     None
 }
 
 fn main(rt: HostRuntime) -> io::Result<()> {
-    let word = env::args(&rt)?.nth(1);
-    let what = match &word {
-        None => Some(Output::Sums),
-        Some(word) => asked(word.as_str()),
+    let Some(word) = env::args(&rt)?.nth(1) else {
+        return show_all(&rt, rt.alloc(), None);
     };
-    match what {
-        Some(what) => show_all(&rt, rt.alloc(), what),
+    match row_of(word.as_str()) {
+        Some(row) => show_all(&rt, rt.alloc(), Some(row)),
         None => println!(rt; "no such row"),
     }
 }

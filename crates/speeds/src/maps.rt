@@ -25,12 +25,11 @@ impl Measured for SortedMap<Val, Val, ValOrder> {
     }
 
     fn call(&self, alloc: Global, row: Row, number: u32) -> Option<u64> {
-        let another = value_behind(number);
         match row {
-            Row::Add => changed(self.add(alloc, another, another)),
+            Row::Add => changed(self.add(alloc, value_behind(number), value_behind(number))),
             Row::LookUp => Some(u64::from(self.get(&value_of(number)).is_some())),
             Row::Remove => changed(self.remove(alloc, &value_of(number))),
-            Row::Set => changed(self.set_item(alloc, value_of(number), another)),
+            Row::Set => changed(self.set_item(alloc, value_of(number), value_behind(number))),
             Row::Iterate => sum_of_all(self.keys(alloc)),
             Row::Build => None,
         }
@@ -46,12 +45,11 @@ impl Measured for Dict<Val, Val, ValEq> {
     }
 
     fn call(&self, alloc: Global, row: Row, number: u32) -> Option<u64> {
-        let another = value_behind(number);
         match row {
-            Row::Add => changed(self.add(alloc, another, another)),
+            Row::Add => changed(self.add(alloc, value_behind(number), value_behind(number))),
             Row::LookUp => Some(u64::from(self.get(&value_of(number)).is_some())),
             Row::Remove => changed(self.remove(alloc, &value_of(number))),
-            Row::Set => changed(self.set_item(alloc, value_of(number), another)),
+            Row::Set => changed(self.set_item(alloc, value_of(number), value_behind(number))),
             Row::Iterate => sum_of_all(self.keys(alloc)),
             Row::Build => None,
         }
