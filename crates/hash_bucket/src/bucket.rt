@@ -57,14 +57,14 @@ impl<T: Drop> Dup for Bucket<T> {
 impl<T: Item> Item for Bucket<T> {}
 
 impl<T> Bucket<T> {
-    /// The hash of each element.
+    /// The hash of each element. O(1).
     pub fn hash(&self) -> i32
         ensures { result ≡ self.now.hash }
     {
         self.hash
     }
 
-    /// The elements, in their own order.
+    /// The elements, in their own order. O(1).
     pub fn items(&self) -> &[T]
         ensures { result.now ≡ self.now.items }
     {
@@ -87,7 +87,7 @@ impl<T> Bucket<T> {
 }
 
 impl<T: Key> Bucket<T> {
-    /// The bucket of one element.
+    /// The bucket of one element. O(1).
     pub fn one(alloc: Global, hash: i32, value: T) -> Result<Bucket<T>, Memory>
         ensures hash { IfOk result (λ b. b.hash ≡ hash) }
         ensures items { IfOk result (λ b. b.items ≡ value ∷ []) }

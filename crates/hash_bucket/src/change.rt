@@ -84,7 +84,8 @@ impl<T: Key, H: HashEq<T>> HashTree<T, H> {
     }
 
     /// The elements with the value, in place of the same one where it is present, however many there
-    /// are. A count is of 32 bits: where it might pass them, there is no memory.
+    /// are. A count is of 32 bits: where it might pass them, there is no memory. It costs what `add`
+    /// does.
     pub fn with(&self, alloc: Global, value: T) -> Result<HashTree<T, H>, Memory>
         ensures items { IfOk result (λ t. t.items ≡ with_same (hash_order T.cmp (H.hash
             self.now.eq)) (H.same self.now.eq) value self.now.items) }

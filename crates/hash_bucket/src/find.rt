@@ -74,8 +74,8 @@ impl<T, Q: Test<T>> Test<Bucket<T>> for InBucket<'_, Q> {
 
 impl<T: Key, H: HashEq<T>> HashTree<T, H> {
     /// The element that is looked for, where all that pass the test have its hash. It tests elements of
-    /// one bucket alone, each no more than once, in O(log n) and the time of these tests; that no
-    /// clause says.
+    /// one bucket alone, each no more than once, which no clause says. O(log n + k) for n elements, of
+    /// which k have the hash.
     pub fn find_where<S: Seek<T>>(&self, sought: &S) -> Option<&T>
         requires { (x : T) → S.meets sought.now x ≡ true → S.hash sought.now ≡ H.hash self.now.eq
             x }
@@ -88,7 +88,7 @@ impl<T: Key, H: HashEq<T>> HashTree<T, H> {
         }
     }
 
-    /// Whether an element is looked for.
+    /// Whether an element is looked for. It costs what `find_where` does.
     pub fn has_where<S: Seek<T>>(&self, sought: &S) -> bool
         requires { (x : T) → S.meets sought.now x ≡ true → S.hash sought.now ≡ H.hash self.now.eq
             x }
@@ -97,7 +97,7 @@ impl<T: Key, H: HashEq<T>> HashTree<T, H> {
         self.find_where(sought).is_some()
     }
 
-    /// The element that is same to the value.
+    /// The element that is same to the value. It costs what `find_where` does.
     pub fn find(&self, value: &T) -> Option<&T>
         ensures { option_copied result ≡ same_in (H.same self.now.eq) value.now self.now.items }
     {
@@ -105,7 +105,7 @@ impl<T: Key, H: HashEq<T>> HashTree<T, H> {
         self.find_where(&SameAs { value, eq })
     }
 
-    /// Whether an element is same to the value.
+    /// Whether an element is same to the value. It costs what `find_where` does.
     pub fn has(&self, value: &T) -> bool
         ensures { result ≡ has (H.same self.now.eq) value.now self.now.items }
     {

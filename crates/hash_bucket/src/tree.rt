@@ -35,7 +35,7 @@ impl<T: Key, H: HashEq<T>> Model for HashTree<T, H> {
 }
 
 impl<T: Key, H: HashEq<T>> HashTree<T, H> {
-    /// The tree of no elements, under this equality.
+    /// The tree of no elements, under this equality. O(1).
     pub fn new(eq: H) -> HashTree<T, H>
         ensures items { result.items ≡ [] }
         ensures eq { result.eq ≡ eq }
@@ -47,7 +47,7 @@ impl<T: Key, H: HashEq<T>> HashTree<T, H> {
         }
     }
 
-    /// The elements of these buckets, of which there are `count`.
+    /// The elements of these buckets, of which there are `count`. O(1).
     pub fn of_tree(tree: Tree<Bucket<T>>, count: u32, eq: H) -> HashTree<T, H>
         requires buckets { AreBuckets T.cmp (H.same eq) (H.hash eq) tree.items }
         requires counted { count ≡ length (elements tree.items) }
@@ -57,7 +57,7 @@ impl<T: Key, H: HashEq<T>> HashTree<T, H> {
         HashTree { tree, count, eq }
     }
 
-    /// The buckets.
+    /// The buckets. O(1).
     pub fn tree(&self) -> &Tree<Bucket<T>>
         ensures items { elements result.now.items ≡ self.now.items }
         ensures buckets { AreBuckets T.cmp (H.same self.now.eq) (H.hash self.now.eq)
@@ -66,14 +66,14 @@ impl<T: Key, H: HashEq<T>> HashTree<T, H> {
         &self.tree
     }
 
-    /// The equality that says which elements are same.
+    /// The equality that says which elements are same. O(1).
     pub fn comparer(&self) -> H
         ensures { result ≡ self.now.eq }
     {
         self.eq
     }
 
-    /// How many elements there are.
+    /// How many elements there are. O(1).
     pub fn count(&self) -> u32
         ensures count { result ≡ length self.now.items }
         ensures set { IsSet (hash_order T.cmp (H.hash self.now.eq)) (H.same self.now.eq)
@@ -82,7 +82,7 @@ impl<T: Key, H: HashEq<T>> HashTree<T, H> {
         self.count
     }
 
-    /// Equal elements, which share the nodes.
+    /// Equal elements, which share the nodes. O(1).
     pub fn share(&self) -> Result<HashTree<T, H>, Memory>
         ensures { IfOk result (λ t. t ≡ self.now) }
     {

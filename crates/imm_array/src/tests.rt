@@ -111,12 +111,21 @@ fn is_moved_where_full(built: &mut ArrayBuilder<Val>) -> bool {
         && matches!(built.move_to_immutable(), Ok(array) if has_numbers(&array, &[1, 2]))
 }
 
+// The builder has nothing, and no room.
+fn is_drained_and_moved_again(built: &mut ArrayBuilder<Val>) -> bool {
+    matches!(built.drain_to_immutable(), Ok(array) if has_numbers(&array, &[]))
+        && is_stepped(built.add(Val::Int(9)))
+        && matches!(built.move_to_immutable(), Ok(array) if has_numbers(&array, &[9]))
+        && built.count() == 0
+}
+
 #[test]
 fn a_builder_is_moved_out_where_it_is_full(rt: HostRuntime) -> Result<(), Fail> {
     let alloc = rt.alloc();
     let mut built = ArrayBuilder::from_array(alloc, &array_of(alloc, &[1, 2])?)?;
     assert!(rt; is_moved_where_full(&mut built));
     assert!(rt; built.count() == 0 && built.capacity() == 0);
+    assert!(rt; is_drained_and_moved_again(&mut built));
     assert!(rt; is_stepped(built.add(Val::Int(9))) && built.capacity() == 1);
     assert!(rt; built.clear() == Step::New && built.capacity() == 1);
     Ok(())

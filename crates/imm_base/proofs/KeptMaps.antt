@@ -126,11 +126,11 @@ module _ {K V : Type 0} (cmp : K → K → Ordering) (same : K → K → Bool) w
       added_over k v m is None = with_pair_map k v m is
       added_over k v m is (Some u) = elim (eq u v) as (λ t. IfAdded (cond t (Ok m) (Err u))) [ true ↦ is | false ↦ tt ]
 
-      added_next : (done : Result (Entries K V) V) (p : K × V) → IfAdded done → IfAdded (add_next cmp same eq done p)
+      pub added_next : (done : Result (Entries K V) V) (p : K × V) → IfAdded done → IfAdded (add_next cmp same eq done p)
       added_next (Ok m) p is = added_over p.0 p.1 m is (value_of same p.0 m)
       added_next (Err u) p is = tt
 
-      added_from : (done : Result (Entries K V) V) (ps : Entries K V) → IfAdded done → IfAdded (fold (add_next cmp same eq) done ps)
+      pub added_from : (done : Result (Entries K V) V) (ps : Entries K V) → IfAdded done → IfAdded (fold (add_next cmp same eq) done ps)
       added_from done [] is = is
       added_from done (p ∷ ps) is = added_from (add_next cmp same eq done p) ps (added_next done p is)
 

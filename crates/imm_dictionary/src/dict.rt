@@ -57,7 +57,7 @@ impl<K, V, H: HashEq<K>> Seek<Pair<K, V>> for SoughtKey<'_, K, H> {
 }
 
 impl<K: Key, V: Key, H: HashEq<K>> Dict<K, V, H> {
-    /// The empty map, under this equality.
+    /// The empty map, under this equality. O(1).
     pub fn new(eq: H) -> Dict<K, V, H>
         ensures pairs { result.pairs ≡ [] }
         ensures eq { result.eq ≡ eq }
@@ -67,7 +67,7 @@ impl<K: Key, V: Key, H: HashEq<K>> Dict<K, V, H> {
         }
     }
 
-    /// The map of these pairs.
+    /// The map of these pairs. O(1).
     pub fn of_elements(elements: HashTree<Pair<K, V>, ByKey<H>>) -> Dict<K, V, H>
         ensures pairs { result.pairs ≡ sorted (pair_cmp K.cmp V.cmp) (entries elements.items) }
         ensures eq { result.eq ≡ elements.eq.eq }
@@ -75,7 +75,7 @@ impl<K: Key, V: Key, H: HashEq<K>> Dict<K, V, H> {
         Dict { elements }
     }
 
-    /// The pairs, by the hashes of their keys.
+    /// The pairs, by the hashes of their keys. O(1).
     pub fn elements(&self) -> &HashTree<Pair<K, V>, ByKey<H>>
         ensures pairs { sorted (pair_cmp K.cmp V.cmp) (entries result.now.items) ≡ self.now.pairs }
         ensures eq { result.now.eq.eq ≡ self.now.eq }
@@ -83,14 +83,14 @@ impl<K: Key, V: Key, H: HashEq<K>> Dict<K, V, H> {
         &self.elements
     }
 
-    /// The equality that says which keys are same.
+    /// The equality that says which keys are same. O(1).
     pub fn comparer(&self) -> H
         ensures { result ≡ self.now.eq }
     {
         self.elements().comparer().eq
     }
 
-    /// How many pairs there are.
+    /// How many pairs there are. O(1).
     pub fn count(&self) -> u32
         ensures count { result ≡ length self.now.pairs }
         ensures map { IsSet (on (λ e. e.0) K.cmp) (on (λ e. e.0) (H.same self.now.eq))
@@ -99,7 +99,7 @@ impl<K: Key, V: Key, H: HashEq<K>> Dict<K, V, H> {
         self.elements().count()
     }
 
-    /// An equal map that shares the nodes.
+    /// An equal map that shares the nodes. O(1).
     pub fn share(&self) -> Result<Dict<K, V, H>, Memory>
         ensures { IfOk result (λ map. map ≡ self.now) }
     {
@@ -107,7 +107,7 @@ impl<K: Key, V: Key, H: HashEq<K>> Dict<K, V, H> {
         Ok(Dict::of_elements(elements))
     }
 
-    /// The empty map.
+    /// The empty map. O(1).
     pub fn clear(&self) -> Edit<Dict<K, V, H>>
         ensures { MapAnswers self.now.eq (Ok result) (clear self.now.pairs) }
     {

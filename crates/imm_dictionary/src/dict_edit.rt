@@ -74,7 +74,7 @@ impl<K: Key, V: Key, H: HashEq<K>> Dict<K, V, H> {
 
     /// The map under this equality: the pairs are added one by one, in the ordinal order of their keys.
     /// Of keys that are same then, with equal values, the first stays; with other values they are
-    /// refused. In time and memory it is O(n log n).
+    /// refused. For n pairs it costs what n calls of `add` do, and O(n log n).
     pub fn with_comparer(&self, alloc: Global, eq: H) -> Result<Edit<Dict<K, V, H>>, MapFault<V>>
         ensures { MapAnswers eq result
             (map_rekey K.cmp K.cmp (H.same eq) V.eq (H.eq eq self.now.eq) self.now.pairs) }

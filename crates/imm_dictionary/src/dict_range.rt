@@ -10,7 +10,8 @@ use std::alloc::Global;
 
 impl<K: Key, V: Key, H: HashEq<K>> Dict<K, V, H> {
     /// The map with the pairs added in order. A key that is present with another value refuses them
-    /// all, also one that an earlier of these pairs brought. O(m log n) for m pairs.
+    /// all, also one that an earlier of these pairs brought. For m pairs it costs what m calls of `add`
+    /// do.
     pub fn add_range(
         &self,
         alloc: Global,
@@ -32,7 +33,7 @@ impl<K: Key, V: Key, H: HashEq<K>> Dict<K, V, H> {
     }
 
     /// The map with the pairs set in order. It stays as it is exactly where each pair is present.
-    /// O(m log n) for m pairs.
+    /// For m pairs it costs what m calls of `add` do.
     pub fn set_items(
         &self,
         alloc: Global,
@@ -54,7 +55,7 @@ impl<K: Key, V: Key, H: HashEq<K>> Dict<K, V, H> {
         }
     }
 
-    /// The map without the pairs of the keys. O(m log n) for m keys.
+    /// The map without the pairs of the keys. For m keys it costs what m calls of `remove` do.
     pub fn remove_range(
         &self,
         alloc: Global,

@@ -36,7 +36,7 @@ impl<T: Key, H: HashEq<T>> Model for ImmHashSet<T, H> {
 }
 
 impl<T: Key, H: HashEq<T>> ImmHashSet<T, H> {
-    /// The empty set, under this equality.
+    /// The empty set, under this equality. O(1).
     pub fn new(eq: H) -> ImmHashSet<T, H>
         ensures items { result.items ≡ [] }
         ensures eq { result.eq ≡ eq }
@@ -46,7 +46,7 @@ impl<T: Key, H: HashEq<T>> ImmHashSet<T, H> {
         }
     }
 
-    /// The set of these elements.
+    /// The set of these elements. O(1).
     pub fn of_elements(elements: HashTree<T, H>) -> ImmHashSet<T, H>
         ensures items { result.items ≡ sorted T.cmp elements.items }
         ensures eq { result.eq ≡ elements.eq }
@@ -54,7 +54,7 @@ impl<T: Key, H: HashEq<T>> ImmHashSet<T, H> {
         ImmHashSet { elements }
     }
 
-    /// The elements, by their hashes.
+    /// The elements, by their hashes. O(1).
     pub fn elements(&self) -> &HashTree<T, H>
         ensures items { sorted T.cmp result.now.items ≡ self.now.items }
         ensures eq { result.now.eq ≡ self.now.eq }
@@ -62,14 +62,14 @@ impl<T: Key, H: HashEq<T>> ImmHashSet<T, H> {
         &self.elements
     }
 
-    /// The equality that says which elements are same.
+    /// The equality that says which elements are same. O(1).
     pub fn comparer(&self) -> H
         ensures { result ≡ self.now.eq }
     {
         self.elements().comparer()
     }
 
-    /// How many elements there are.
+    /// How many elements there are. O(1).
     pub fn count(&self) -> u32
         ensures count { result ≡ length self.now.items }
         ensures set { IsSet T.cmp (H.same self.now.eq) self.now.items }
@@ -77,7 +77,7 @@ impl<T: Key, H: HashEq<T>> ImmHashSet<T, H> {
         self.elements().count()
     }
 
-    /// An equal set that shares the nodes.
+    /// An equal set that shares the nodes. O(1).
     pub fn share(&self) -> Result<ImmHashSet<T, H>, Memory>
         ensures { IfOk result (λ set. set ≡ self.now) }
     {
@@ -85,7 +85,7 @@ impl<T: Key, H: HashEq<T>> ImmHashSet<T, H> {
         Ok(ImmHashSet::of_elements(elements))
     }
 
-    /// The empty set.
+    /// The empty set. O(1).
     pub fn clear(&self) -> Edit<ImmHashSet<T, H>>
         ensures { SetAnswers self.now.eq (Ok result) (clear self.now.items) }
     {
@@ -96,7 +96,8 @@ impl<T: Key, H: HashEq<T>> ImmHashSet<T, H> {
         }
     }
 
-    /// Whether an element is same to the value. It compares the value to those of its hash alone.
+    /// Whether an element is same to the value. It compares the value to those of its hash alone, in
+    /// O(log n + k) for n elements, of which k have this hash.
     pub fn contains(&self, value: &T) -> bool
         ensures { result ≡ has (H.same self.now.eq) value.now self.now.items }
     {
@@ -104,7 +105,7 @@ impl<T: Key, H: HashEq<T>> ImmHashSet<T, H> {
     }
 
     /// The element that is same to the value, in its own spelling. It compares the value to those of its
-    /// hash alone.
+    /// hash alone, in O(log n + k) for n elements, of which k have this hash.
     pub fn actual(&self, value: &T) -> Option<&T>
         ensures { option_copied result ≡ same_in (H.same self.now.eq) value.now self.now.items }
     {

@@ -40,7 +40,7 @@ impl<T: Key, H: HashEq<T>> ImmHashSet<T, H> {
     }
 
     /// The set under this equality. Of elements that are same then it takes the first in ordinal order.
-    /// In time and memory it is O(n log n).
+    /// For n elements it costs what n calls of `add` do, and O(n log n).
     pub fn with_comparer(&self, alloc: Global, eq: H) -> Result<Edit<ImmHashSet<T, H>>, SetFault>
         ensures { SetAnswers eq result (set_rekey T.cmp T.cmp (H.same eq) (H.eq eq self.now.eq)
             self.now.items) }

@@ -11,7 +11,7 @@ use std::alloc::Global;
 
 impl<T: Key, H: HashEq<T>> ImmHashSet<T, H> {
     /// The set with each of the values that is absent. Of same ones it takes the first. For m values it
-    /// costs what m calls of `add` do, as the other calls of this block.
+    /// costs what m calls of `add` do.
     pub fn union_with(
         &self,
         alloc: Global,
@@ -27,7 +27,7 @@ impl<T: Key, H: HashEq<T>> ImmHashSet<T, H> {
         Ok(self.changed_to(set))
     }
 
-    /// The elements that are same to one of the values.
+    /// The elements that are same to one of the values. For m values it costs what m calls of `add` do.
     pub fn intersect_with(
         &self,
         alloc: Global,
@@ -40,7 +40,8 @@ impl<T: Key, H: HashEq<T>> ImmHashSet<T, H> {
         Ok(self.changed_to(set))
     }
 
-    /// The elements that are same to none of the values.
+    /// The elements that are same to none of the values. For m values it costs what m calls of `remove`
+    /// do.
     pub fn except_with(
         &self,
         alloc: Global,
@@ -54,7 +55,8 @@ impl<T: Key, H: HashEq<T>> ImmHashSet<T, H> {
     }
 
     /// The elements that are same to none of the values, and the values that are same to none of the
-    /// elements. Of same values it takes the first.
+    /// elements. Of same values it takes the first. For m values it costs what m calls of `remove` and m
+    /// of `add` do.
     pub fn sym_except_with(
         &self,
         alloc: Global,

@@ -228,6 +228,88 @@ fn maps_answer_in_ordinal_order(rt: HostRuntime) {
     assert!(rt; matches!(rekey_is_refused(alloc), Ok(true)));
 }
 
+// "a" has the value 1.
+fn a_value_is_added_or_set(alloc: Global, map: &Map) -> bool {
+    matches!(map.add(alloc, a(), number(1)), Ok(Edit::Same))
+        && is_present(map.add(alloc, a(), number(2)), 1)
+        && is_new_map(
+            alloc,
+            map.set_item(alloc, a(), number(2)),
+            &[(a(), number(2))],
+        )
+        && is_map_of(alloc, map, &[(a(), number(1))])
+}
+
+// "KEY" has the value 2, whatever the case.
+fn a_value_that_is_present_brings_no_spelling(alloc: Global, map: &Map) -> bool {
+    matches!(map.set_item(alloc, text(b"key"), number(2)), Ok(Edit::Same))
+        && map.get(&text(b"kEY")) == Some(&number(2))
+        && is_map_of(alloc, map, &[(text(b"KEY"), number(2))])
+}
+
+#[test]
+fn a_key_goes_with_its_value(rt: HostRuntime) -> Result<(), Fail> {
+    let alloc = rt.alloc();
+    let ordinal: Map = Dict::new(ValEq::Ordinal);
+    if let Edit::New(map) = ordinal.add(alloc, a(), number(1))? {
+        assert!(rt; a_value_is_added_or_set(alloc, &map));
+    }
+    let spelled: Map = Dict::new(ValEq::NoCase);
+    if let Edit::New(map) = spelled.add(alloc, text(b"Key"), number(1))? {
+        if let Edit::New(map) = map.set_item(alloc, text(b"KEY"), number(2))? {
+            assert!(rt; a_value_that_is_present_brings_no_spelling(alloc, &map));
+        }
+    }
+    Ok(())
+}
+
+fn numbers(alloc: Global, values: &[i64]) -> Result<Vec<Val>, Memory> {
+    let mut numbers = Vec::new(alloc);
+    for value in values {
+        numbers.push(number(*value))?;
+    }
+    Ok(numbers)
+}
+
+fn set_of_numbers(alloc: Global, eq: ValEq, values: &[i64]) -> Result<Set, SetFault> {
+    let empty = ImmHashSet::new(eq);
+    let values = numbers(alloc, values)?;
+    match empty.union_with(alloc, values.as_slice())? {
+        Edit::New(set) => Ok(set),
+        Edit::Same => Ok(empty),
+    }
+}
+
+#[test]
+fn a_bucket_of_all_elements_loses_some(rt: HostRuntime) -> Result<(), Fail> {
+    let alloc = rt.alloc();
+    let all = [
+        1, 2, 3, 4, 5, 6, 7, 8, 9, 10, 11, 12, 13, 14, 15, 16, 17, 18, 19, 20,
+    ];
+    let left = [
+        2, 3, 4, 5, 6, 7, 8, 9, 11, 12, 13, 14, 15, 16, 17, 18, 19, 20,
+    ];
+    let set = set_of_numbers(alloc, ValEq::One, &all)?;
+    if let Edit::New(set) = set.remove(alloc, &number(1))? {
+        if let Edit::New(rest) = set.remove(alloc, &number(10))? {
+            assert!(rt; matches!(rest.remove(alloc, &number(10)), Ok(Edit::Same)));
+            assert!(rt; !rest.contains(&number(10)));
+            assert!(rt; is_set_of(alloc, &rest, numbers(alloc, &left)?.as_slice()));
+        }
+    }
+    Ok(())
+}
+
+#[test]
+fn elements_stand_by_hash_or_in_ordinal_order(rt: HostRuntime) -> Result<(), Fail> {
+    let alloc = rt.alloc();
+    let set = set_of_numbers(alloc, ValEq::Ordinal, &[1, -2, 3, -1])?;
+    let by_hash = set.elements().to_list(alloc)?;
+    assert!(rt; by_hash.as_slice() == numbers(alloc, &[-1, -2, 1, 3])?.as_slice());
+    assert!(rt; is_set_of(alloc, &set, numbers(alloc, &[-2, -1, 1, 3])?.as_slice()));
+    Ok(())
+}
+
 // Adds the integers below `count`, and says how often a search for each of them compares at most.
 fn most_calls(alloc: Global, eq: ValEq, count: u32) -> Result<u32, SetFault> {
     let calls = Cell::new(0);

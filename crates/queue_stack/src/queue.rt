@@ -109,7 +109,8 @@ impl<T: Drop> ImmQueue<T> {
 }
 
 impl<T: Dup> ImmQueue<T> {
-    /// The queue without its front. O(1), and O(n) for each n elements where the back is turned round.
+    /// The queue without its front. O(1), and O(n) where the front is used up and the n elements behind it
+    /// are turned round.
     #[tactic(auto, using(crate::proofs::Ends::ends))]
     pub fn dequeue(&self, alloc: Global) -> Result<Edit<ImmQueue<T>>, EndFault>
         ensures { Answers result (remove_first self.now) }

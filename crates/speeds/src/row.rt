@@ -1,0 +1,83 @@
+// The rows that are measured of all collections.
+use crate::measured::Measured;
+use imm_base::Val;
+use std::alloc::Global;
+
+/// What is done with a collection.
+#[derive(Clone, Copy, Debug, PartialEq, Eq)]
+pub(crate) enum Row {
+    Build,
+    Add,
+    LookUp,
+    Remove,
+    Set,
+    Iterate,
+}
+
+pub(crate) const ROWS: [Row; 6] = [
+    Row::Build,
+    Row::Add,
+    Row::LookUp,
+    Row::Remove,
+    Row::Set,
+    Row::Iterate,
+];
+
+impl Row {
+    /// The word for the row.
+    pub(crate) fn word(self) -> &'static str {
+        match self {
+            Row::Build => "build",
+            Row::Add => "add",
+            Row::LookUp => "lookup",
+            Row::Remove => "remove",
+            Row::Set => "set",
+            Row::Iterate => "iterate",
+        }
+    }
+
+    // How often the call is made.
+    fn calls(self) -> u32 {
+        match self {
+            Row::Build | Row::Iterate => 1,
+            Row::Add | Row::Remove | Row::Set => 1_000,
+            Row::LookUp => 100_000,
+        }
+    }
+
+    /// How many operations the calls are on so many elements: to build and to iterate is one an
+    /// element.
+    pub(crate) fn operations(self, count: u32) -> u32 {
+        match self {
+            Row::Build | Row::Iterate => count,
+            _ => self.calls(),
+        }
+    }
+}
+
+// The next number of a sequence that goes all over a collection.
+fn next_number(number: u32) -> u32 {
+    number.wrapping_mul(1_664_525).wrapping_add(1_013_904_223)
+}
+
+/// What the calls of the row come to, on the collection of so many values. `None`: the collection
+/// has no such call, or one failed.
+pub(crate) fn work<C: Measured>(
+    alloc: Global,
+    row: Row,
+    base: &C,
+    values: &[Val],
+    count: u32,
+) -> Option<u64> {
+    if row == Row::Build {
+        return C::build(alloc, values).map(|_collection| 1);
+    }
+    let mut sum = 0u64;
+    let mut number = 0u32;
+    for _ in 0..row.calls() {
+        number = next_number(number);
+        let place = number / 16 % count.max(1);
+        sum = sum.wrapping_add(base.call(alloc, row, place)?);
+    }
+    Some(sum)
+}
