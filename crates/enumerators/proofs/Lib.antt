@@ -1,3 +1,4 @@
 pub mod Steps
 pub mod PlainPools
 pub mod ByHash
+pub mod Takings

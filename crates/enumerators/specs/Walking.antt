@@ -1,12 +1,12 @@
 -- What a walk has at its place, and why a call on it is refused.
-use Rattle.std.specs.Prelude.{◌≡◌, ℕ, Option, Some, None, Result, Ok, Err}
-use Rattle.std.specs.Option.{option_map}
-use Rattle.stack_pool.specs.Pools.{Pool, refusal}
+use Rattle.std.specs.Prelude.{◌≡◌, ℕ, ◌==◌, cond, Option, Some, None, is_none, Result, Ok, Err}
+use Rattle.stack_pool.specs.declared.TheConstants.{MOST_TAKINGS}
+use Rattle.stack_pool.specs.Pools.{Pool}
 use Rattle.stack_pool.specs.declared.fault.PoolFault.{PoolFault}
 use Rattle.stack_pool.specs.declared.fault.PoolFault.TheVariants as pool
 use Rattle.plain_model.specs.declared.plain.Elem.{Elem}
 use Rattle.plain_model.specs.Places as plain
-use Rattle.plain_model.specs.Places.{Rest, WalkWhy, content_at, with_owner, without_owner, disposed, changed, no_current, rest_if_unchanged, current_of}
+use Rattle.plain_model.specs.Places.{Rest, WalkWhy, content_at, lowest_free, take_place, with_owner, without_owner, disposed, changed, no_current, rest_if_unchanged, current_of}
 use Rattle.enumerators.specs.PlainPools.{plain_pool}
 use Rattle.enumerators.specs.declared.walk.Walk.{Walk}
 use Rattle.enumerators.specs.declared.walk.WalkFault.{WalkFault}
@@ -30,9 +30,18 @@ walk_fault pool.NoNumber = NoNumber
 walk_fault (pool.Disposed holder) = Disposed
 walk_fault (pool.Busy number) = Busy number
 
--- why a walk cannot start
+-- why a walk cannot start: no number is left, or no place
 abbrev pub start_fault : Pool (Rest Elem) → Option WalkFault
-start_fault p = option_map walk_fault (refusal p)
+start_fault p =
+    cond (p.takings == MOST_TAKINGS) (Some NoNumber)
+    (cond (is_none (lowest_free (plain_pool p).places)) (Some PoolFull)
+    None)
+
+-- the walk is of this, at the place and under the number that it took
+abbrev pub IsStarted : Pool (Rest Elem) → Pool (Rest Elem) → Rest Elem → Walk → Type 0
+IsStarted p q rest w =
+    take_place rest (plain_pool p)
+    ≡ Some (record { place = w.owner.place; number = w.owner.number; pool = plain_pool q })
 
 module _ (p : Pool (Rest Elem)) (w : Walk) where
   -- what the walk has at its place, where the place is its own

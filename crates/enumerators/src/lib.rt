@@ -8,6 +8,8 @@
 mod collections;
 mod rest;
 mod series;
+#[cfg(test)]
+mod shared_tests;
 mod shared_walk;
 #[cfg(test)]
 mod tests;

@@ -16,7 +16,7 @@ fn one(number: i64) -> Elem {
 }
 
 /// The list 1, 2 before its first element.
-fn one_and_two(rt: &impl Abort, alloc: Global) -> Rest {
+pub(crate) fn one_and_two(rt: &impl Abort, alloc: Global) -> Rest {
     let Ok(mut list) = ImmList::from_slice(alloc, &[Val::Int(1), Val::Int(2)]) else {
         panic!(rt; "no memory for a list")
     };
@@ -125,17 +125,54 @@ fn lists_and_sorted_collections_are_walked_in_their_order(rt: HostRuntime) -> Re
     Ok(())
 }
 
-// The hash of a number is that of its two halves, so -5 has the hash 4.
-#[test]
-fn hash_collections_are_walked_by_hash(rt: HostRuntime) -> Result<(), Memory> {
-    let Ok(Edit::New(set)) = ImmHashSet::new(ValEq::Ordinal).union_with(
-        rt.alloc(),
-        &[Val::Int(-5), Val::Int(1), Val::Int(9)],
-    ) else {
+/// The first three elements of the hash set of the first values without the others.
+fn first_of_hashed(
+    rt: &impl Abort,
+    alloc: Global,
+    eq: ValEq,
+    values: &[Val],
+    others: &[Val],
+) -> Result<[Result<Option<Elem>, WalkFault>; 3], Memory> {
+    let Ok(Edit::New(set)) = ImmHashSet::new(eq).union_with(alloc, values) else {
         return Err(Memory);
     };
-    let [first, second, third] = first_three(&rt, rt.alloc(), set)?;
-    assert!(rt; shows(&first, one(1)) && shows(&second, one(-5)) && shows(&third, one(9)));
+    let Ok(Edit::New(less)) = set.except_with(alloc, others) else {
+        return Err(Memory);
+    };
+    first_three(rt, alloc, less)
+}
+
+// Under the equality `one` all values have one hash, and then the ordinal order decides.
+#[test]
+fn hash_sets_are_walked_by_hash(rt: HostRuntime) -> Result<(), Memory> {
+    let values = [
+        Val::Int(1),
+        Val::Int(-2),
+        Val::Int(3),
+        Val::Int(-1),
+        Val::Int(9),
+    ];
+    let [first, second, third] = first_of_hashed(
+        &rt,
+        rt.alloc(),
+        ValEq::Ordinal,
+        &values,
+        &[Val::Int(9)],
+    )?;
+    assert!(rt; shows(&first, one(-1)) && shows(&second, one(-2)) && shows(&third, one(1)));
+    let [first, second, third] = first_of_hashed(
+        &rt,
+        rt.alloc(),
+        ValEq::One,
+        &values,
+        &[Val::Int(-2)],
+    )?;
+    assert!(rt; shows(&first, one(-1)) && shows(&second, one(1)) && shows(&third, one(3)));
+    Ok(())
+}
+
+#[test]
+fn dictionaries_are_walked_by_pairs(rt: HostRuntime) -> Result<(), Memory> {
     let Ok(Edit::New(map)) = Dict::new(ValEq::One).set_item(rt.alloc(), Val::Int(1), Val::Int(5))
     else {
         return Err(Memory);

@@ -1,8 +1,7 @@
 //! A handle on a walk, and the calls on it over a pool for one thread.
 ghost use Rattle.std.specs.Prelude.{◌≡◌, ◌≢◌, Some, Ok, None, MatchResult};
 ghost use Rattle.plain_model.specs.Places.{next, reset};
-ghost use Rattle.stack_pool.specs.Pools.{IsTakenFrom};
-ghost use Rattle.enumerators.specs.Walking.{IsTurned, TurnRefused, current_elem, fault_in, own_rest, start_fault, walk_fault, without_rest};
+ghost use Rattle.enumerators.specs.Walking.{IsStarted, IsTurned, TurnRefused, current_elem, fault_in, own_rest, start_fault, walk_fault, without_rest};
 ghost use Rattle.enumerators.specs.PlainPools.{plain_pool};
 
 use crate::rest::Rest;
@@ -55,9 +54,11 @@ impl Walk {
     /// Puts what is left to walk into the lowest free place, under a new number. `made` is the
     /// version of what is walked. Refused as `NoNumber` after the pool's last taking, and else as
     /// `PoolFull` where each place is owned; then `rest` is dropped. O(1).
+    #[tactic(auto, using(crate::proofs::Takings::plain_takings))]
     pub fn start(rest: Rest, made: u64, pool: &mut Pool<Rest>) -> Result<Walk, WalkFault>
         ensures { MatchResult result
-            (λ walk. (walk.made ≡ made) × IsTakenFrom pool.old pool.new rest walk.owner)
+            (λ walk. (walk.made ≡ made) × (start_fault pool.old ≡ None)
+            × IsStarted pool.old pool.new rest walk)
             (λ fault. (start_fault pool.old ≡ Some fault) × (pool.new ≡ pool.old)) }
     {
         match pool.take(rest) {

@@ -1,5 +1,5 @@
 //! A pool for one thread.
-ghost use Rattle.std.specs.Prelude.{◌≡◌, ◌≢◌, ◌↔◌, ◌<◌, ◌≤◌, Some, None, IfOk, IfErr, IsErr};
+ghost use Rattle.std.specs.Prelude.{◌≡◌, ◌≢◌, ◌↔◌, ◌<◌, ◌≤◌, length, Some, None, IfOk, IfErr, IsErr, MatchResult};
 ghost use Rattle.std.specs.Borrow.{sem};
 ghost use Rattle.stack_pool.specs.Pools.{new_pool, holder_of, content_of, refusal, first_free, freed, IsTakenFrom};
 ghost use Rattle.stack_pool.specs.PoolLends.{lends_content, lends_if_owned};
@@ -53,6 +53,7 @@ impl<S: Drop> Pool<S> {
         ensures ok { IfOk result (λ o. IsTakenFrom self.old self.new rest o) }
         ensures err { IfErr result (λ e. (refusal self.old ≡ Some e.fault) × (e.rest ≡ rest)
             × (self.new ≡ self.old)) }
+        ensures places { length self.old.places ≡ PLACES }
     {
         if self.takings == MOST_TAKINGS {
             return Err(TakeFault {
@@ -92,10 +93,7 @@ impl<S: Drop> Pool<S> {
         ensures err { IfErr result (λ e. e ≡ PoolFault.Disposed (holder_of self.old owner.place)) }
         ensures disposed { IsErr result ↔ (holder_of self.old owner.place ≢ Some owner.number) }
     {
-        let holder = self.holder_at(owner.place);
-        if holder != Some(owner.number) {
-            return Err(PoolFault::Disposed { holder });
-        }
+        self.check_owner(owner)?;
         Ok(self.content_mut(owner.place))
     }
 
@@ -116,13 +114,24 @@ impl<S: Drop> Pool<S> {
             × (self.new ≡ self.old)) }
         ensures disposed { IsErr result ↔ (holder_of self.old owner.place ≢ Some owner.number) }
     {
-        let holder = self.holder_at(owner.place);
-        if holder != Some(owner.number) {
-            return Err(PoolFault::Disposed { holder });
-        }
+        self.check_owner(owner)?;
         match mem::replace(&mut self.places[owner.place as usize], Place::Free) {
             Place::Owned(_, content) => Ok(content),
             Place::Free => unreachable!(),
+        }
+    }
+
+    // Whether the place is the handle's.
+    fn check_owner(&self, owner: Owner) -> Result<(), PoolFault>
+        ensures { MatchResult result (λ _. holder_of self.now owner.place ≡ Some owner.number)
+            (λ e. (holder_of self.now owner.place ≢ Some owner.number)
+            × (e ≡ PoolFault.Disposed (holder_of self.now owner.place))) }
+    {
+        let holder = self.holder_at(owner.place);
+        if holder == Some(owner.number) {
+            Ok(())
+        } else {
+            Err(PoolFault::Disposed { holder })
         }
     }
 
