@@ -35,7 +35,7 @@ fn call_each<R: Wait, C: Share, X: Change<C>>(
     ensures table { pass.new.table ≡ pass.old.table }
     ensures number { pass.new.view.number ≡ pass.old.view.number }
 {
-    for call in calls {
+    'calls: for call in calls {
         let last = pass.last_ordinal();
         if last >= MOST || cell.call(rt, alloc, pass, last + 1, call).is_err() {
             return;
@@ -56,7 +56,7 @@ fn call_all<R: Wait, C: Share, X: Change<C>>(
     ensures table { pass.new.table ≡ pass.old.table }
     ensures number { pass.new.view.number ≡ pass.old.view.number }
 {
-    for _ in 0..plan.rounds {
+    'rounds: for _ in 0..plan.rounds {
         call_each(rt, alloc, cell, pass, plan.calls);
     }
 }
@@ -72,7 +72,7 @@ fn read_all<R: Wait, C: Share, X: Change<C>>(
     ensures table { pass.new.table ≡ pass.old.table }
     ensures number { pass.new.view.number ≡ pass.old.view.number }
 {
-    for _ in 0..reads {
+    'reads: for _ in 0..reads {
         if cell.read(rt, pass).is_err() {
             return;
         }
@@ -108,8 +108,8 @@ fn work_all<R: Threads + Wait + Sync, C: Share + Send + Sync, X: Change<C> + Sen
     passes: &mut [CellPass<C, X>],
     plan: &Plan<X>,
 )
-    requires own { All (λ p. p.table ≡ cell.now.table) passes.old }
-    requires suits { (call : _) (kind : _) → X.suits call kind }
+    requires { All (λ p. p.table ≡ cell.now.table) passes.old
+        × ((call : _) (kind : _) → X.suits call kind) }
     ensures { (k : ℕ) (d : _) → k < length passes.old
         → ((slice_index_or passes.new k d).table ≡ (slice_index_or passes.old k d).table)
         × ((slice_index_or passes.new k d).view.number ≡ (slice_index_or passes.old k d).view.number) }
@@ -146,10 +146,14 @@ pub fn run<R: Threads + Wait + Sync + Clock, C: Share + Send + Sync, X: Change<C
     requires threads { (0 < threads) × (threads ≤ 8) }
     requires suits { (call : _) (kind : _) → X.suits call kind }
 {
-    let (cell, mut passes) = ImmCell::make(alloc, threads, first)?;
+    let Ok((cell, mut passes)) = ImmCell::make(alloc, threads, first) else {
+        return Err(Memory);
+    };
     let start = rt.monotonic();
     work_all(rt, alloc, &cell, passes.as_mut_slice(), plan);
     let nanos = nanos_between(start, rt.monotonic());
-    let closed = cell.close(alloc, passes)?;
+    let Ok(closed) = cell.close(alloc, passes) else {
+        return Err(Memory);
+    };
     Ok((closed.payload, nanos))
 }

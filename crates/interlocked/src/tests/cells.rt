@@ -98,17 +98,23 @@ impl Job<Map, DictCall> for ValueCalls {
         cell: &ImmCell<Map, DictCall>,
         pass: &mut CellPass<Map, DictCall>,
     ) {
-        let plus = Transform::Plus(1);
         let Ok((reply, _)) = cell.get_or_add(rt, alloc, pass, 1, A, A) else {
             panic!(rt; "a value")
         };
         assert!(rt; are_same(&reply, &Reply::Value(A)));
-        let Ok((reply, _)) = cell.add_or_update(rt, alloc, pass, 2, A, A, plus) else {
+        let Ok((reply, _)) = cell.add_or_update(rt, alloc, pass, 2, A, A, Transform::Plus(1)) else {
             panic!(rt; "a value")
         };
         assert!(rt; are_same(&reply, &Reply::Value(B)));
-        let Ok((reply, _)) = cell.add_or_update_made(rt, alloc, pass, 3, B, Factory::Key, plus)
-        else {
+        let Ok((reply, _)) = cell.add_or_update_made(
+            rt,
+            alloc,
+            pass,
+            3,
+            B,
+            Factory::Key,
+            Transform::Plus(1),
+        ) else {
             panic!(rt; "a value")
         };
         assert!(rt; are_same(&reply, &Reply::Value(B)));
@@ -131,13 +137,14 @@ impl Job<Map, DictCall> for MadeCalls {
         };
         assert!(rt; are_same(&reply, &Reply::Value(A)));
         assert!(rt; matches!(probe, Probe::Ran { position: 0 }));
-        let made = Factory::Const(A);
-        let Ok((reply, _, probe)) = cell.get_or_add_made(rt, alloc, pass, 2, B, made) else {
+        let Ok((reply, _, probe)) = cell.get_or_add_made(rt, alloc, pass, 2, B, Factory::Const(A))
+        else {
             panic!(rt; "a value")
         };
         assert!(rt; are_same(&reply, &Reply::Value(A)));
         assert!(rt; matches!(probe, Probe::Ran { position: 1 }));
-        let Ok((reply, _, probe)) = cell.get_or_add_made(rt, alloc, pass, 3, A, made) else {
+        let Ok((reply, _, probe)) = cell.get_or_add_made(rt, alloc, pass, 3, A, Factory::Const(B))
+        else {
             panic!(rt; "a value")
         };
         assert!(rt; are_same(&reply, &Reply::Value(A)));
@@ -265,7 +272,7 @@ impl<'a> Job<Scarce<'a>, Count> for Exhausts {
         cell: &ImmCell<Scarce<'a>, Count>,
         pass: &mut CellPass<Scarce<'a>, Count>,
     ) {
-        for _ in rt.forever() {
+        'shares: for _ in rt.forever() {
             match cell.peek(pass) {
                 Ok(_) => {}
                 Err(PeekFault::Memory) => break,

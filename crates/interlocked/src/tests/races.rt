@@ -134,7 +134,7 @@ impl Job<Stack, StackCall> for Reads {
         let Ok((kept, at)) = cell.read(rt, pass) else {
             panic!(rt; "a value")
         };
-        for _ in rt.forever() {
+        'reads: for _ in rt.forever() {
             let Ok((stack, stamp)) = cell.read(rt, pass) else {
                 panic!(rt; "a value")
             };
