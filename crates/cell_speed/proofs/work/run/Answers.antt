@@ -7,10 +7,12 @@ use Rattle.interlocked.proofs.Passed.{all_new, all_of_cell, are_all}
 use Rattle.cell_speed.proofs.work.run.Goals as goal
 
 pub work_all-requires-after_bounds : goal.work_all-requires-after_bounds
-work_all-requires-after_bounds g c κs within = (λ k d near.
-    let first : Kept = record { value = g.C.Share.plain c.args.first; entries = [] } in
-    let new = all_new c.in-Ok.cell.table c.args.threads first c.as_mut_slice.result.now (c.as_mut_slice.ensures.value ∙ c.in-Ok.ensures.passes) k d near in new.0,
-    c.requires.suits)
+work_all-requires-after_bounds g c κs within = (
+  λ k d near.
+      let first : Kept = record { value = g.C.Share.plain c.args.first; entries = [] } in
+      let new = all_new c.in-Ok.cell.table c.args.threads first c.as_mut_slice.result.now (c.as_mut_slice.ensures.value ∙ c.in-Ok.ensures.passes) k d near in new.0,
+  c.requires.suits,
+)
 
 pub close-requires-clause-table : goal.close-requires-clause-table
 close-requires-clause-table g c =
