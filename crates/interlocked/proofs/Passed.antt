@@ -6,7 +6,7 @@ use Rattle.atomic_table.specs.Seated.{TableId}
 use Rattle.version_slots.specs.Views.{counting}
 use Rattle.version_slots.specs.Cells.{AreAll}
 use Rattle.interlocked.specs.declared.entry.Kept.{Kept}
-use Rattle.interlocked.specs.Known.{Known, IsLater}
+use Rattle.interlocked.specs.Known.{Known}
 use Rattle.interlocked.specs.Whole.{new_pass, new_passes}
 
 there : {B : Type 0} (l : List B) (i : ℕ) (d : B) → i < length l → get_elem? l i ≡ some (get_or l i d)
@@ -37,9 +37,9 @@ module _ (table : TableId) (passes : ℕ) (first : Kept) where
     pub all_new : All (λ (p : Known). (p.table ≡ table) × (p.last ≡ 0) × (p.kind ≡ first.value.kind)) xs
     all_new k d near = subst (λ (p : Known). (p.table ≡ table) × (p.last ≡ 0) × (p.kind ≡ first.value.kind)) (sym (at_pass k d near)) (refl, refl, refl)
 
-    module _ (ys : List Known) (same : length ys ≡ length xs) (later : (k : ℕ) (d : Known) → k < length xs → IsLater (get_or xs k d) (get_or ys k d)) where
+    module _ (ys : List Known) (same : length ys ≡ length xs) (later : (k : ℕ) (d : Known) → k < length xs → ((get_or ys k d).table ≡ (get_or xs k d).table) × ((get_or ys k d).view.number ≡ (get_or xs k d).view.number)) where
       pub all_of_cell : All (λ (p : Known). p.table ≡ table) ys
-      all_of_cell k d near = let small : k < length xs = omega arith in (later k d small).table ∙ ap (λ (p : Known). p.table) (at_pass k d small)
+      all_of_cell k d near = let small : k < length xs = omega arith in (later k d small).0 ∙ ap (λ (p : Known). p.table) (at_pass k d small)
 
       pub are_all : AreAll passes (map (λ (p : Known). p.view) ys)
       are_all number some_number few =
@@ -49,5 +49,5 @@ module _ (table : TableId) (passes : ℕ) (first : Kept) where
             i,
             (get_or ys i d).view,
             mapped (λ (p : Known). p.view) ys i (get_or ys i d) (there ys i d near),
-            (later i d small).number ∙ (ap (λ (p : Known). p.view.number) (at_pass i d small) ∙ one),
+            (later i d small).1 ∙ (ap (λ (p : Known). p.view.number) (at_pass i d small) ∙ one),
           )

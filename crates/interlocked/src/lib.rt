@@ -25,3 +25,6 @@ pub use entry::{Entry, Kept};
 pub use logged::Logged;
 pub use queue::QueueCall;
 pub use stack::StackCall;
+
+#[cfg(test)]
+mod tests;

@@ -1,0 +1,5 @@
+use Rattle.std.proofs.Common.{◌≡◌}
+use Rattle.cell_speed.proofs.work.read_all.Given as goal
+
+abbrev pub invariant-reads : goal.invariant-reads
+invariant-reads g l = record { table : l.pass.table ≡ l.initial.pass.table; number : l.pass.view.number ≡ l.initial.pass.view.number }
