@@ -5,6 +5,9 @@
 //! walk.
 #![tactic(auto)]
 
+mod built;
+#[cfg(test)]
+mod built_tests;
 mod collections;
 mod rest;
 mod series;

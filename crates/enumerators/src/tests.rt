@@ -11,7 +11,7 @@ use stack_pool::Pool;
 use std::alloc::Global;
 use std::process::Abort;
 
-fn one(number: i64) -> Elem {
+pub(crate) fn one(number: i64) -> Elem {
     Elem::One(Val::Int(number))
 }
 
@@ -26,7 +26,7 @@ pub(crate) fn one_and_two(rt: &impl Abort, alloc: Global) -> Rest {
     rest
 }
 
-fn started(rt: &impl Abort, rest: Rest, made: u64, pool: &mut Pool<Rest>) -> Walk {
+pub(crate) fn started(rt: &impl Abort, rest: Rest, made: u64, pool: &mut Pool<Rest>) -> Walk {
     let Ok(walk) = Walk::start(rest, made, pool) else {
         panic!(rt; "a place is free")
     };
@@ -83,7 +83,7 @@ fn the_36th_walk_is_refused(rt: HostRuntime) -> Result<(), Memory> {
 }
 
 /// The first three elements that a walk along the collection comes to.
-fn first_three<C: Walked + Drop>(
+pub(crate) fn first_three<C: Walked + Drop>(
     rt: &impl Abort,
     alloc: Global,
     collection: C,
@@ -99,7 +99,7 @@ fn first_three<C: Walked + Drop>(
     Ok([first, second, third])
 }
 
-fn shows(step: &Result<Option<Elem>, WalkFault>, element: Elem) -> bool {
+pub(crate) fn shows(step: &Result<Option<Elem>, WalkFault>, element: Elem) -> bool {
     *step == Ok(Some(element))
 }
 

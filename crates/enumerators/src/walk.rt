@@ -71,7 +71,8 @@ impl Walk {
     /// `now` is the version of what is walked. Refused as `Disposed` where the walk's number does
     /// not own its place, and else as `Changed` where the version is not that at the start.
     ///
-    /// It takes no memory, and costs O(log n) in a collection of n elements.
+    /// It takes no memory. One call goes down the tree of the n elements once, O(log n), so a whole
+    /// walk costs O(n log n).
     #[tactic(auto, using(crate::proofs::PlainPools::plain_calls))]
     pub fn next(self, pool: &mut Pool<Rest>, now: u64) -> Result<Option<Elem>, WalkFault>
         ensures { MatchResult result

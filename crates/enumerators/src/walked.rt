@@ -16,8 +16,8 @@ pub trait Walked {
     ghost changes: { Self → ℕ };
 
     /// A share of the elements, before the first of them. It leaves the contents and the version as
-    /// they are, also where memory is refused. O(1) for a collection; a builder's links are frozen
-    /// first, in the number of nodes that were made since the last freeze.
+    /// they are, also where memory is refused. O(1) for a collection. A builder publishes its
+    /// contents first, O(k) for the k nodes that were made since it did so last.
     fn rest(&mut self, alloc: Global) -> Result<Rest, Memory>
         ensures start { IfOk result (λ rest. rest ≡ start_of (elements self.old)) }
         ensures same { self.new ≡ self.old };
