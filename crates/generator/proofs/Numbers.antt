@@ -1,6 +1,6 @@
 -- What is made number by number.
 use Rattle.std.specs.Prelude.{◌≡◌, ℕ, zero, suc, ◌+◌, List, [], ◌∷◌, ◌++◌, map}
-use Rattle.std.proofs.Common.{refl, ap, sym, ◌∙◌, arith, zero-add}
+use Rattle.std.proofs.Common.{ap, sym, ◌∙◌, arith, zero-add}
 use Rattle.plain_model.specs.declared.commands.Command.{Command}
 use Rattle.plain_model.specs.declared.report.CellDecl.{CellDecl}
 use Rattle.plain_model.specs.declared.report.Part.{Part}

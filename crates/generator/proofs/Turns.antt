@@ -1,5 +1,5 @@
 -- The last turn is all that the others are not.
-use Rattle.std.specs.Prelude.{◌≡◌, ◌≢◌, ◌≤◌, ℕ, zero, suc, codes}
+use Rattle.std.specs.Prelude.{◌≡◌, ◌≤◌, ℕ, zero, suc, codes}
 use Rattle.std.proofs.Common.{refl, arith}
 use Rattle.imm_base.specs.declared.val.Val.{Val}
 use Rattle.plain_model.specs.declared.commands.PlainOp.TheVariants as ops

@@ -1,5 +1,5 @@
 -- A declaration without values is the cell and its kind.
-use Rattle.std.specs.Prelude.{◌≡◌, [], ◌++◌}
+use Rattle.std.specs.Prelude.{◌≡◌, []}
 use Rattle.std.proofs.Common.{ap}
 use Rattle.std.proofs.lemmas.List.{append-nil}
 use Rattle.plain_model.specs.declared.plain.Values.TheVariants as values
