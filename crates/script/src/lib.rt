@@ -9,11 +9,13 @@ mod lines;
 mod parser;
 mod printing;
 mod symbols;
+mod upgrading;
 
 pub use fault::{ParseError, ParseFault};
 pub use grammar::parse;
 pub use plain_model::{Part, Script};
 pub use printing::print;
+pub use upgrading::upgrade;
 
 #[cfg(test)]
 mod tests;

@@ -1,0 +1,4 @@
+pub mod Letters
+pub mod Numbers
+pub mod Turns
+pub mod Words
