@@ -5,3 +5,9 @@ mod FirstLines
 mod LineByLine
 pub mod ReadyScripts
 mod Steps
+mod TextLines
+mod Passes
+mod Traces
+mod Rereading
+mod Reached
+mod Printed

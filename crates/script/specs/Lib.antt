@@ -6,3 +6,4 @@ pub mod Parser
 pub mod Grammar
 pub mod Ready
 pub mod Printing
+pub mod RoundTrip

@@ -4,6 +4,7 @@
 mod commands;
 mod fault;
 mod grammar;
+mod laws;
 mod limits;
 mod lines;
 mod parser;
@@ -13,6 +14,7 @@ mod upgrading;
 
 pub use fault::{ParseError, ParseFault};
 pub use grammar::parse;
+pub use laws::printed_scripts_are_read_again;
 pub use plain_model::{Part, Script};
 pub use printing::print;
 pub use upgrading::upgrade;

@@ -5,3 +5,13 @@ pub mod Judgements
 pub mod Listing
 mod NameLemmas
 pub mod Within
+pub mod ReadAgain
+pub mod WrittenWords
+pub mod WrittenLetters
+mod WrittenNumbers
+mod WrittenValues
+mod WrittenSources
+mod WrittenContents
+mod WrittenOperations
+mod WrittenQueries
+pub mod WrittenLines

@@ -11,3 +11,4 @@ pub mod Contents
 pub mod Operations
 pub mod Queries
 pub mod Lines
+pub mod Written

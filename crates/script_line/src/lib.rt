@@ -5,6 +5,7 @@ mod arguments;
 mod codes;
 mod comparers;
 mod contents;
+mod laws;
 mod line;
 mod names;
 mod numerals;
@@ -16,6 +17,7 @@ mod values;
 mod words;
 
 pub use codes::{Code, both_or_least};
+pub use laws::written_lines_are_read_again;
 pub use line::{Line, command_values, line_of};
 pub use words::{Words, split_words};
 

@@ -1,0 +1,20 @@
+//! Laws of scripts. Each is the contract of a function that does nothing.
+ghost use Rattle.script.specs.RoundTrip.{IsReadAgain};
+
+/// A law: what is printed of a script that some text is says this script again. So `parse` answers
+/// the script for what `print` gives of it, where that is not longer than a script may be. It does
+/// nothing when it runs.
+pub fn printed_scripts_are_read_again()
+    ensures { IsReadAgain }
+{}
+
+#[cfg(test)]
+mod tests {
+    use crate::printed_scripts_are_read_again;
+    use std::test::*;
+
+    #[test]
+    fn the_law_of_printed_scripts_is_called(rt: HostRuntime) {
+        printed_scripts_are_read_again();
+    }
+}
