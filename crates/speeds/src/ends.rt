@@ -16,13 +16,13 @@ impl Measured for ImmStack<Val> {
         Some(stack)
     }
 
-    fn call(&self, alloc: Global, row: Row, number: u32) -> Option<u64> {
+    fn call(&mut self, alloc: Global, row: Row, number: u32) -> Option<u64> {
         match row {
             Row::Add => changed(self.push(alloc, value_behind(number))),
             Row::LookUp => Some(u64::from(self.peek().is_ok())),
             Row::Remove => changed(self.pop(alloc)),
             Row::Iterate => sum_of_all(self.to_vec(alloc)),
-            Row::Build | Row::Set => None,
+            _ => None,
         }
     }
 }
@@ -40,13 +40,13 @@ impl Measured for ImmQueue<Val> {
         other(queue.dequeue(alloc))
     }
 
-    fn call(&self, alloc: Global, row: Row, number: u32) -> Option<u64> {
+    fn call(&mut self, alloc: Global, row: Row, number: u32) -> Option<u64> {
         match row {
             Row::Add => changed(self.enqueue(alloc, value_behind(number))),
             Row::LookUp => Some(u64::from(self.peek().is_ok())),
             Row::Remove => changed(self.dequeue(alloc)),
             Row::Iterate => sum_of_all(self.to_vec(alloc)),
-            Row::Build | Row::Set => None,
+            _ => None,
         }
     }
 }

@@ -1,5 +1,5 @@
 // Lists and arrays.
-use crate::measured::{Measured, changed, sum_of, sum_of_all, value_behind};
+use crate::measured::{Measured, changed, sum_of, sum_of_all, sum_of_walk, value_behind};
 use crate::row::Row;
 use imm_array::ImmArray;
 use imm_base::Val;
@@ -13,14 +13,15 @@ impl Measured for ImmList<Val> {
         ImmList::from_slice(alloc, values).ok()
     }
 
-    fn call(&self, alloc: Global, row: Row, number: u32) -> Option<u64> {
+    fn call(&mut self, alloc: Global, row: Row, number: u32) -> Option<u64> {
         match row {
             Row::Add => changed(self.add(alloc, value_behind(number))),
             Row::LookUp => Some(u64::from(self.get(number).is_ok())),
             Row::Remove => changed(self.remove_at(alloc, number)),
             Row::Set => changed(self.set_item(alloc, number, value_behind(number))),
             Row::Iterate => sum_of_all(self.to_vec(alloc)),
-            Row::Build => None,
+            Row::Walk => sum_of_walk(alloc, self),
+            _ => None,
         }
     }
 }
@@ -32,14 +33,14 @@ impl Measured for ImmArray<Val> {
         ImmArray::from_slice(alloc, values).ok()
     }
 
-    fn call(&self, alloc: Global, row: Row, number: u32) -> Option<u64> {
+    fn call(&mut self, alloc: Global, row: Row, number: u32) -> Option<u64> {
         match row {
             Row::Add => changed(self.add(alloc, value_behind(number))),
             Row::LookUp => Some(u64::from(self.get(number).is_ok())),
             Row::Remove => changed(self.remove_at(alloc, number)),
             Row::Set => changed(self.set_item(alloc, number, value_behind(number))),
             Row::Iterate => Some(sum_of(self.as_slice())),
-            Row::Build => None,
+            _ => None,
         }
     }
 }

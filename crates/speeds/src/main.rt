@@ -1,9 +1,10 @@
 //! Works on collections of every kind, and prints what their calls come to. With the word of a row
-//! (`build`, `add`, `lookup`, `remove`, `set`, `iterate`) it prints, for each kind that has such a call
-//! and for each size, how many nanoseconds of processor time an operation of this row takes: the
-//! least of several rounds.
+//! (`build`, `add`, `lookup`, `remove`, `set`, `iterate`, `walk`, `change`, `publish`) it prints, for
+//! each kind that has such a call and for each size, how many nanoseconds of processor time an
+//! operation of this row takes: the least of several rounds.
 #![tactic(auto)]
 
+mod built;
 mod ends;
 mod lists;
 mod maps;
@@ -11,6 +12,8 @@ mod measured;
 mod row;
 mod sets;
 
+use builders::{DictBuilder, HashSetBuilder, ListBuilder, MapBuilder, SetBuilder};
+use built::InPlace;
 use frozen_sets::FrozenMap;
 use imm_array::ImmArray;
 use imm_base::{Memory, Val, ValEq, ValOrder};
@@ -49,11 +52,11 @@ fn show_sums<C: Measured>(rt: &impl Print, alloc: Global) -> io::Result<()> {
     let Ok(values) = values_up_to(alloc, count) else {
         return println!(rt; "{name}: no memory");
     };
-    let Some(base) = C::build(alloc, values.as_slice()) else {
+    let Some(mut base) = C::build(alloc, values.as_slice()) else {
         return println!(rt; "{name}: no memory");
     };
     for row in ROWS {
-        if let Some(sum) = work(alloc, row, &base, values.as_slice(), count) {
+        if let Some(sum) = work(alloc, row, &mut base, values.as_slice(), count) {
             let word = row.word();
             println!(rt; "{name} {word}: {sum}")?;
         }
@@ -71,13 +74,16 @@ fn show_time<C: Measured>(
     let Ok(values) = values_up_to(alloc, count) else {
         return println!(rt; "{name}: no memory");
     };
-    let Some(base) = C::build(alloc, values.as_slice()) else {
+    let Some(mut base) = C::build(alloc, values.as_slice()) else {
         return println!(rt; "{name}: no memory");
     };
     let mut least = u64::MAX;
     for _ in 0..ROUNDS {
+        if let Some(before) = row.before() {
+            let _sum = work(alloc, before, &mut base, values.as_slice(), count);
+        }
         let start = rt.thread_cpu_time()?;
-        if work(alloc, row, &base, values.as_slice(), count).is_none() {
+        if work(alloc, row, &mut base, values.as_slice(), count).is_none() {
             return Ok(());
         }
         let spent = rt.thread_cpu_time()?.saturating_sub(start);
@@ -112,7 +118,12 @@ fn show_all(rt: &(impl Print + CpuClock), alloc: Global, timed: Option<Row>) -> 
     show::<ImmStack<Val>>(rt, alloc, timed)?;
     show::<ImmQueue<Val>>(rt, alloc, timed)?;
     show::<ImmArray<Val>>(rt, alloc, timed)?;
-    show::<FrozenMap<Val>>(rt, alloc, timed)
+    show::<FrozenMap<Val>>(rt, alloc, timed)?;
+    show::<InPlace<ListBuilder<Val>>>(rt, alloc, timed)?;
+    show::<InPlace<SetBuilder<Val, ValOrder>>>(rt, alloc, timed)?;
+    show::<InPlace<MapBuilder<Val, Val, ValOrder>>>(rt, alloc, timed)?;
+    show::<InPlace<DictBuilder<Val, Val, ValEq>>>(rt, alloc, timed)?;
+    show::<InPlace<HashSetBuilder<Val, ValEq>>>(rt, alloc, timed)
 }
 
 // The row of the word.

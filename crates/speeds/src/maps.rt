@@ -1,5 +1,5 @@
 // Sorted maps, dictionaries and frozen maps.
-use crate::measured::{Measured, changed, other, sum_of_all, value_behind, value_of};
+use crate::measured::{Measured, changed, other, sum_of_all, sum_of_walk, value_behind, value_of};
 use crate::row::Row;
 use frozen_sets::FrozenMap;
 use imm_base::{LIMIT, Memory, Val, ValEq, ValOrder};
@@ -24,14 +24,15 @@ impl Measured for SortedMap<Val, Val, ValOrder> {
         other(SortedMap::new(ValOrder::Ordinal).set_items(alloc, pairs.as_slice()))
     }
 
-    fn call(&self, alloc: Global, row: Row, number: u32) -> Option<u64> {
+    fn call(&mut self, alloc: Global, row: Row, number: u32) -> Option<u64> {
         match row {
             Row::Add => changed(self.add(alloc, value_behind(number), value_behind(number))),
             Row::LookUp => Some(u64::from(self.get(&value_of(number)).is_some())),
             Row::Remove => changed(self.remove(alloc, &value_of(number))),
             Row::Set => changed(self.set_item(alloc, value_of(number), value_behind(number))),
             Row::Iterate => sum_of_all(self.keys(alloc)),
-            Row::Build => None,
+            Row::Walk => sum_of_walk(alloc, self),
+            _ => None,
         }
     }
 }
@@ -44,14 +45,15 @@ impl Measured for Dict<Val, Val, ValEq> {
         other(Dict::new(ValEq::Ordinal).set_items(alloc, pairs.as_slice()))
     }
 
-    fn call(&self, alloc: Global, row: Row, number: u32) -> Option<u64> {
+    fn call(&mut self, alloc: Global, row: Row, number: u32) -> Option<u64> {
         match row {
             Row::Add => changed(self.add(alloc, value_behind(number), value_behind(number))),
             Row::LookUp => Some(u64::from(self.get(&value_of(number)).is_some())),
             Row::Remove => changed(self.remove(alloc, &value_of(number))),
             Row::Set => changed(self.set_item(alloc, value_of(number), value_behind(number))),
             Row::Iterate => sum_of_all(self.keys(alloc)),
-            Row::Build => None,
+            Row::Walk => sum_of_walk(alloc, self),
+            _ => None,
         }
     }
 }
@@ -67,11 +69,11 @@ impl Measured for FrozenMap<Val> {
         FrozenMap::from_list(alloc, pairs.as_slice(), ValEq::Ordinal).ok()
     }
 
-    fn call(&self, alloc: Global, row: Row, number: u32) -> Option<u64> {
+    fn call(&mut self, alloc: Global, row: Row, number: u32) -> Option<u64> {
         match row {
             Row::LookUp => Some(u64::from(self.get(&value_of(number)).is_some())),
             Row::Iterate => sum_of_all(self.keys(alloc)),
-            Row::Build | Row::Add | Row::Remove | Row::Set => None,
+            _ => None,
         }
     }
 }

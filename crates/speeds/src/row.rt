@@ -12,15 +12,21 @@ pub(crate) enum Row {
     Remove,
     Set,
     Iterate,
+    Walk,
+    Change,
+    Publish,
 }
 
-pub(crate) const ROWS: [Row; 6] = [
+pub(crate) const ROWS: [Row; 9] = [
     Row::Build,
     Row::Add,
     Row::LookUp,
     Row::Remove,
     Row::Set,
     Row::Iterate,
+    Row::Walk,
+    Row::Change,
+    Row::Publish,
 ];
 
 impl Row {
@@ -33,24 +39,39 @@ impl Row {
             Row::Remove => "remove",
             Row::Set => "set",
             Row::Iterate => "iterate",
+            Row::Walk => "walk",
+            Row::Change => "change",
+            Row::Publish => "publish",
         }
     }
 
-    // How often the call is made.
-    fn calls(self) -> u32 {
+    // How often the call is made on so many elements.
+    fn calls(self, count: u32) -> u32 {
         match self {
-            Row::Build | Row::Iterate => 1,
+            Row::Build | Row::Iterate | Row::Walk | Row::Publish => 1,
             Row::Add | Row::Remove | Row::Set => 1_000,
             Row::LookUp => 100_000,
+            Row::Change => count / 10,
         }
     }
 
-    /// How many operations the calls are on so many elements: to build and to iterate is one an
-    /// element.
+    /// How many operations the calls are on so many elements: to build, to iterate and to walk is
+    /// one an element, and to publish is one for each change before it.
     pub(crate) fn operations(self, count: u32) -> u32 {
         match self {
-            Row::Build | Row::Iterate => count,
-            _ => self.calls(),
+            Row::Build | Row::Iterate | Row::Walk => count,
+            Row::Publish => Row::Change.calls(count),
+            _ => self.calls(count),
+        }
+    }
+
+    /// What is done before the row, and is no part of it: a builder is published before it is
+    /// changed, and changed before it is published.
+    pub(crate) fn before(self) -> Option<Row> {
+        match self {
+            Row::Change => Some(Row::Publish),
+            Row::Publish => Some(Row::Change),
+            _ => None,
         }
     }
 }
@@ -65,7 +86,7 @@ fn next_number(number: u32) -> u32 {
 pub(crate) fn work<C: Measured>(
     alloc: Global,
     row: Row,
-    base: &C,
+    base: &mut C,
     values: &[Val],
     count: u32,
 ) -> Option<u64> {
@@ -74,7 +95,7 @@ pub(crate) fn work<C: Measured>(
     }
     let mut sum = 0u64;
     let mut number = 0u32;
-    for _ in 0..row.calls() {
+    for _ in 0..row.calls(count) {
         number = next_number(number);
         let place = number / 16 % count.max(1);
         sum = sum.wrapping_add(base.call(alloc, row, place)?);

@@ -1,5 +1,5 @@
 // Sorted sets and hash sets.
-use crate::measured::{Measured, changed, other, sum_of_all, value_behind, value_of};
+use crate::measured::{Measured, changed, other, sum_of_all, sum_of_walk, value_behind, value_of};
 use crate::row::Row;
 use imm_base::{Val, ValEq, ValOrder};
 use imm_dictionary::ImmHashSet;
@@ -13,13 +13,14 @@ impl Measured for SortedSet<Val, ValOrder> {
         other(SortedSet::new(ValOrder::Ordinal).union_with(alloc, values))
     }
 
-    fn call(&self, alloc: Global, row: Row, number: u32) -> Option<u64> {
+    fn call(&mut self, alloc: Global, row: Row, number: u32) -> Option<u64> {
         match row {
             Row::Add => changed(self.add(alloc, value_behind(number))),
             Row::LookUp => Some(u64::from(self.contains(&value_of(number)))),
             Row::Remove => changed(self.remove(alloc, &value_of(number))),
             Row::Iterate => sum_of_all(self.to_vec(alloc)),
-            Row::Build | Row::Set => None,
+            Row::Walk => sum_of_walk(alloc, self),
+            _ => None,
         }
     }
 }
@@ -31,13 +32,14 @@ impl Measured for ImmHashSet<Val, ValEq> {
         other(ImmHashSet::new(ValEq::Ordinal).union_with(alloc, values))
     }
 
-    fn call(&self, alloc: Global, row: Row, number: u32) -> Option<u64> {
+    fn call(&mut self, alloc: Global, row: Row, number: u32) -> Option<u64> {
         match row {
             Row::Add => changed(self.add(alloc, value_behind(number))),
             Row::LookUp => Some(u64::from(self.contains(&value_of(number)))),
             Row::Remove => changed(self.remove(alloc, &value_of(number))),
             Row::Iterate => sum_of_all(self.to_vec(alloc)),
-            Row::Build | Row::Set => None,
+            Row::Walk => sum_of_walk(alloc, self),
+            _ => None,
         }
     }
 }
