@@ -1,7 +1,6 @@
 //! A tour of the library. Each piece of code in docs/library.md is a function of this crate.
 #![tactic(auto)]
 
-mod cells;
 mod lists;
 mod maps;
 mod publishing;
@@ -11,7 +10,6 @@ mod walking;
 use imm_base::{Val, ValEq};
 use std::alloc::Global;
 use std::io;
-use std::sync::Wait;
 use std::thread::Threads;
 
 fn show_lists(rt: &impl Print, alloc: Global) -> io::Result<()> {
@@ -27,10 +25,9 @@ fn show_lists(rt: &impl Print, alloc: Global) -> io::Result<()> {
     }
 }
 
-fn show_maps<R: Print + Threads + Wait + Sync>(rt: &R, alloc: Global) -> io::Result<()> {
+fn show_maps<R: Print + Threads>(rt: &R, alloc: Global) -> io::Result<()> {
     println!(rt; "pools: {:?}", maps::pools(alloc))?;
     println!(rt; "frozen: {:?}", maps::frozen_pool(alloc))?;
-    println!(rt; "requests: {:?}", cells::requests(rt, alloc, Val::Int(80)))?;
     let none = maps::Routes::new(ValEq::Ordinal);
     match maps::get_or_add(alloc, &none, Val::Int(80), Val::Int(1)) {
         Ok((routes, _)) => {
