@@ -7,48 +7,73 @@ use plain_model::{Answer, Kind, PlainCall, Query, Reply};
 use std::alloc::Global;
 use std::test::Fail;
 
-// What the call installs, and whether its reply is the wanted flag.
-fn installed(alloc: Global, old: &Collection, call: PlainCall) -> Result<Option<Collection>, Fail>
+fn word(text: &[u8]) -> Result<Val, Fail> {
+    Ok(Val::Text(Text24::from_bytes(text).ok_or("text")?))
+}
+
+// What a copy of the call installs, with the reply that it is done.
+fn installed(alloc: Global, old: &Collection, call: PlainCall) -> Result<Collection, Fail>
     requires { PlainSuits call }
 {
     let call = CellCall::Plain(call).dup(alloc).ok().ok_or("copy")?;
     let outcome = call.apply(alloc, old).ok().ok_or("outcome")?;
     match (outcome.edit, outcome.reply) {
-        (Edit::New(value), Reply::Flag(true)) => Ok(Some(value)),
-        _ => Ok(None),
+        (Edit::New(value), Reply::Flag(true)) => Ok(value),
+        _ => Err(Fail::new("installed")),
     }
+}
+
+// A dictionary with this key alone, whose value is then updated under the other one to itself.
+fn updated(alloc: Global, key: Val, other: Val) -> Result<Collection, Fail> {
+    let one = Val::Int(1);
+    let empty = Collection::empty(Kind::Dict(ValEq::NoCase));
+    let added = installed(alloc, &empty, PlainCall::TryAdd(key, one))?;
+    installed(alloc, &added, PlainCall::TryUpdate(other, one, one))
+}
+
+// Whether the key that is the same as this one is spelled as the other.
+fn is_spelled(alloc: Global, held: &Collection, key: Val, other: Val) -> Result<bool, Fail> {
+    let found = held.answer(alloc, &Query::KeyOf(key)).ok().ok_or("answer")?;
+    Ok(matches!(found, Answer::Value(spelled) if spelled == other))
 }
 
 #[test]
 fn an_update_to_the_same_value_takes_the_new_spelling(rt: HostRuntime) -> Result<(), Fail> {
-    let alloc = rt.alloc();
-    let small = Val::Text(Text24::from_bytes(b"a").ok_or("text")?);
-    let capital = Val::Text(Text24::from_bytes(b"A").ok_or("text")?);
-    let one = Val::Int(1);
-    let empty = Collection::empty(Kind::Dict(ValEq::NoCase));
-    let added = installed(alloc, &empty, PlainCall::TryAdd(small, one))?.ok_or("added")?;
-    let call = PlainCall::TryUpdate(capital, one, one);
-    let updated = installed(alloc, &added, call)?.ok_or("updated")?;
-    let key = updated
-        .answer(alloc, &Query::KeyOf(small))
-        .ok()
-        .ok_or("answer")?;
-    assert!(rt; matches!(key, Answer::Value(spelled) if spelled == capital));
+    let small = word(b"a")?;
+    let capital = word(b"A")?;
+    let held = updated(rt.alloc(), small, capital)?;
+    let spelled = is_spelled(rt.alloc(), &held, small, capital)?;
+    assert!(rt; spelled);
     Ok(())
+}
+
+// The kind of what the call publishes in the plain model.
+fn published_kind(alloc: Global, call: &CellCall) -> Result<Kind, Fail> {
+    match call.plain(alloc).ok().ok_or("plain")? {
+        PlainCall::Publish(plain) => Ok(plain.kind),
+        _ => Err(Fail::new("publish")),
+    }
 }
 
 #[test]
 fn a_collection_is_published(rt: HostRuntime) -> Result<(), Fail> {
-    let alloc = rt.alloc();
     let call = CellCall::Publish(Collection::empty(Kind::Stack));
-    let PlainCall::Publish(plain) = call.plain(alloc).ok().ok_or("plain")? else {
-        return Err(Fail::new("publish"));
-    };
-    assert!(rt; plain.kind == Kind::Stack);
-    let outcome = call
-        .apply(alloc, &Collection::empty(Kind::Stack))
-        .ok()
-        .ok_or("outcome")?;
-    assert!(rt; matches!(outcome.edit, Edit::New(_)));
+    let kind = published_kind(rt.alloc(), &call)?;
+    assert!(rt; kind == Kind::Stack);
+    Ok(())
+}
+
+// Whether a stack that is published in place of another one is installed.
+fn is_installed(alloc: Global) -> Result<bool, Fail> {
+    let old = Collection::empty(Kind::Stack);
+    let call = CellCall::Publish(Collection::empty(Kind::Stack));
+    let outcome = call.apply(alloc, &old).ok().ok_or("outcome")?;
+    Ok(matches!(outcome.edit, Edit::New(_)))
+}
+
+#[test]
+fn a_published_collection_is_installed(rt: HostRuntime) -> Result<(), Fail> {
+    let installs = is_installed(rt.alloc())?;
+    assert!(rt; installs);
     Ok(())
 }
