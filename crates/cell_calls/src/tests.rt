@@ -1,15 +1,12 @@
 ghost use Rattle.cell_calls.specs.Calls.{PlainSuits};
 
+use crate::answers::value_told;
 use crate::*;
 use collections::Collection;
 use imm_base::{Dup, Edit, Text24, Val, ValEq};
-use plain_model::{Answer, Kind, PlainCall, Query, Reply};
+use plain_model::{Kind, PlainCall, Query, Reply};
 use std::alloc::Global;
 use std::test::Fail;
-
-fn word(text: &[u8]) -> Result<Val, Fail> {
-    Ok(Val::Text(Text24::from_bytes(text).ok_or("text")?))
-}
 
 // What a copy of the call installs, with the reply that it is done.
 fn installed(alloc: Global, old: &Collection, call: PlainCall) -> Result<Collection, Fail>
@@ -23,27 +20,47 @@ fn installed(alloc: Global, old: &Collection, call: PlainCall) -> Result<Collect
     }
 }
 
-// A dictionary with this key alone, whose value is then updated under the other one to itself.
-fn updated(alloc: Global, key: Val, other: Val) -> Result<Collection, Fail> {
-    let one = Val::Int(1);
-    let empty = Collection::empty(Kind::Dict(ValEq::NoCase));
-    let added = installed(alloc, &empty, PlainCall::TryAdd(key, one))?;
-    installed(alloc, &added, PlainCall::TryUpdate(other, one, one))
+// The text of this letter.
+fn letter(byte: u8) -> Result<Val, Fail> {
+    match Text24::from_bytes(&[byte]) {
+        Some(text) => Ok(Val::Text(text)),
+        None => Err(Fail::new("text")),
+    }
 }
 
-// Whether the key that is the same as this one is spelled as the other.
-fn is_spelled(alloc: Global, held: &Collection, key: Val, other: Val) -> Result<bool, Fail> {
-    let found = held.answer(alloc, &Query::KeyOf(key)).ok().ok_or("answer")?;
-    Ok(matches!(found, Answer::Value(spelled) if spelled == other))
+fn added(alloc: Global, key: &Val) -> Result<Collection, Fail> {
+    let empty = Collection::empty(Kind::Dict(ValEq::NoCase));
+    installed(alloc, &empty, PlainCall::TryAdd(*key, Val::Int(1)))
+}
+
+// The collection after the value of the key is updated to itself.
+fn updated(alloc: Global, old: &Collection, key: &Val) -> Result<Collection, Fail> {
+    let call = PlainCall::TryUpdate(*key, Val::Int(1), Val::Int(1));
+    installed(alloc, old, call)
+}
+
+// How the key that is the same as this one is spelled.
+fn spelling(alloc: Global, held: &Collection, key: &Val) -> Result<Val, Fail> {
+    let query = Query::KeyOf(*key);
+    let answer = held.answer(alloc, &query).ok().ok_or("answer")?;
+    match value_told(&answer) {
+        Some(spelled) => Ok(spelled),
+        None => Err(Fail::new("absent")),
+    }
+}
+
+// How the key of a dictionary is spelled after an update under the other spelling.
+fn spelling_then(alloc: Global, key: &Val, other: &Val) -> Result<Val, Fail> {
+    let first = added(alloc, key)?;
+    let held = updated(alloc, &first, other)?;
+    spelling(alloc, &held, key)
 }
 
 #[test]
 fn an_update_to_the_same_value_takes_the_new_spelling(rt: HostRuntime) -> Result<(), Fail> {
-    let small = word(b"a")?;
-    let capital = word(b"A")?;
-    let held = updated(rt.alloc(), small, capital)?;
-    let spelled = is_spelled(rt.alloc(), &held, small, capital)?;
-    assert!(rt; spelled);
+    let capital = letter(b'A')?;
+    let spelled = spelling_then(rt.alloc(), &letter(b'a')?, &capital)?;
+    assert!(rt; spelled == capital);
     Ok(())
 }
 
