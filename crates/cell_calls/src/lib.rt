@@ -9,6 +9,3 @@ mod outcome;
 
 pub use call::CellCall;
 pub use outcome::Outcome;
-
-#[cfg(test)]
-mod tests;
