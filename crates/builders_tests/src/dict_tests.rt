@@ -1,6 +1,6 @@
 // The builder of dictionaries.
-use builders::*;
 use builders::laws::Builder;
+use builders::*;
 use imm_base::{MapFault, Memory, Step, Val, ValEq};
 use imm_dictionary::Dict;
 use std::alloc::Global;

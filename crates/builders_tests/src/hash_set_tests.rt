@@ -1,6 +1,6 @@
 // The builder of hash sets.
-use builders::*;
 use builders::laws::Builder;
+use builders::*;
 use imm_base::{Memory, SetTest, Step, Val, ValEq};
 use imm_dictionary::ImmHashSet;
 use std::alloc::Global;

@@ -1,6 +1,6 @@
 // The builder of sorted maps.
-use builders::*;
 use builders::laws::Builder;
+use builders::*;
 use imm_base::{MapFault, Memory, Step, Val, ValOrder};
 use sorted_maps::SortedMap;
 use std::alloc::Global;

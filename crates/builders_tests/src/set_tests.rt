@@ -1,6 +1,6 @@
 // The builder of sorted sets.
-use builders::*;
 use builders::laws::Builder;
+use builders::*;
 use imm_base::{Memory, SetTest, Step, Val, ValOrder};
 use sorted_sets::SortedSet;
 use std::alloc::Global;

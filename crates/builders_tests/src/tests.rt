@@ -1,5 +1,5 @@
-use builders::*;
 use builders::laws::{Builder, published_stays};
+use builders::*;
 use imm_base::{Memory, Step, Val, ValOrder, ValTest};
 use imm_list::{ImmList, ListFault};
 use std::alloc::Global;

@@ -1,7 +1,7 @@
-use imm_dictionary::*;
 use avl_node::TreeFault;
 use hash_bucket::{Bucket, HashTree};
 use imm_base::{Edit, HashEq, LIMIT, MapFault, Memory, SetFault, SetTest, Text24, Val, ValEq};
+use imm_dictionary::*;
 use std::alloc::Global;
 use std::cell::Cell;
 use std::test::Fail;

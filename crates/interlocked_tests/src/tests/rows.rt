@@ -1,8 +1,8 @@
 //! Calls on values, each with its outcome.
-use interlocked::{ArrayCall, ArrayValue, Change, DictCall, Outcome, QueueCall, Share, StackCall};
 use imm_array::ImmArray;
 use imm_base::{Edit, Memory, Val, ValEq};
 use imm_dictionary::Dict;
+use interlocked::{ArrayCall, ArrayValue, Change, DictCall, Outcome, QueueCall, Share, StackCall};
 use plain_model::{Factory, Listed, Probe, Refusal, Reply, Shown, Transform};
 use queue_stack::{ImmQueue, ImmStack};
 use std::alloc::Global;
