@@ -7,8 +7,6 @@ mod program;
 mod run;
 mod status;
 mod streams;
-#[cfg(test)]
-mod tests;
 mod word;
 
 pub use plain_model::report_text;
