@@ -108,7 +108,7 @@ fn the_first_of_same_elements_stays(rt: HostRuntime) -> Result<(), Fail> {
 }
 
 // "a"=1, "b"=2, and "A"=3, which is the latter of two.
-fn three_pairs(alloc: Global) -> Result<FrozenMap, Memory> {
+fn three_pairs(alloc: Global) -> Result<FrozenMap<Val>, Memory> {
     let pairs = [
         (text("a"), Val::Int(1)),
         (text("b"), Val::Int(2)),
@@ -117,11 +117,11 @@ fn three_pairs(alloc: Global) -> Result<FrozenMap, Memory> {
     FrozenMap::from_list(alloc, &pairs, ValEq::NoCase)
 }
 
-fn has_keys(alloc: Global, map: &FrozenMap) -> Result<bool, Memory> {
+fn has_keys(alloc: Global, map: &FrozenMap<Val>) -> Result<bool, Memory> {
     Ok(map.keys(alloc)?.as_slice() == [text("A"), text("b")].as_slice())
 }
 
-fn has_values(alloc: Global, map: &FrozenMap) -> Result<bool, Memory> {
+fn has_values(alloc: Global, map: &FrozenMap<Val>) -> Result<bool, Memory> {
     Ok(map.values(alloc)?.as_slice() == [Val::Int(3), Val::Int(2)].as_slice())
 }
 
