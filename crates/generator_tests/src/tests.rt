@@ -1,5 +1,4 @@
-use crate::scripts::commands;
-use crate::*;
+use generator::*;
 use imm_base::{Memory, Text24, Val, ValEq};
 use plain_model::{
     CellDecl, CellReport, Command, Kind, Line, Listed, Plain, PlainCall, Reply, Report, Values,
@@ -8,10 +7,10 @@ use plain_model::{
 use std::alloc::{AllocError, Global};
 use std::test::*;
 
-/// Commands, one a line.
+/// The first five commands, one a line.
 fn written(alloc: Global, commands: &[Command]) -> Result<String, AllocError> {
     let mut text = String::new(alloc);
-    for command in commands {
+    for command in commands.iter().take(5) {
         put_command(&mut text, command)?;
         text.push('\n')?;
     }
@@ -20,8 +19,9 @@ fn written(alloc: Global, commands: &[Command]) -> Result<String, AllocError> {
 
 #[test]
 fn the_cells_are_taken_in_turn(rt: HostRuntime) -> Result<(), Fail> {
-    let commands = commands(rt.alloc(), 7, 1, 5)?;
-    let text = written(rt.alloc(), commands.as_slice())?;
+    let script = gen_script(rt.alloc(), 7)?;
+    let second = script.parts.as_slice().get(1).ok_or("a second part")?;
+    let text = written(rt.alloc(), second.commands.as_slice())?;
     assert_eq!(rt;
         text.as_str(),
         "addorupdate D 20 1 plus 1\npush S 27\nenqueue Q 34\nupdate L add 41\naddorupdate D 48 1 plus 1\n"

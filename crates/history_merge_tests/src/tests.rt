@@ -1,4 +1,4 @@
-use crate::merge;
+use history_merge::merge;
 use imm_base::{Memory, Val};
 use plain_model::{Line, Listed, PlainCall, Reply};
 use std::alloc::Global;
