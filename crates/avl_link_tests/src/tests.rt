@@ -47,9 +47,9 @@ fn three_and_five(alloc: Global) -> Result<Link<Val>, TreeFault> {
 }
 
 fn is_read(link: &Link<Val>) -> bool {
-    link.search_by(&Val::Int(4), &ValOrder::Ordinal) == Err(1)
+    link.is_sorted(&ValOrder::Ordinal)
+        && link.search_by(&Val::Int(4), &ValOrder::Ordinal) == Err(1)
         && link.any(&ValTest::Is(Val::Int(5)))
-        && link.is_sorted(&ValOrder::Ordinal)
 }
 
 fn refuses_the_place_2(alloc: Global, link: &mut Link<Val>) -> bool {
