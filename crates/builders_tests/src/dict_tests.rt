@@ -114,16 +114,11 @@ fn is_asked(alloc: Global, builder: &Map) -> Result<bool, Memory> {
     )
 }
 
-fn put_pairs(alloc: Global, builder: &mut Map, keys: &[i64]) -> Result<(), Memory> {
-    let pairs = pairs_of(alloc, keys)?;
-    let _answer = builder.add_range(alloc, pairs.as_slice());
-    Ok(())
-}
-
 // A new builder of what is published.
 fn map_of(alloc: Global, keys: &[i64]) -> Result<Map, Memory> {
     let mut builder = DictBuilder::from(&Dict::new(ValEq::Ordinal))?;
-    put_pairs(alloc, &mut builder, keys)?;
+    let pairs = pairs_of(alloc, keys)?;
+    let _answer = builder.add_range(alloc, pairs.as_slice());
     DictBuilder::from(&builder.to_immutable()?)
 }
 

@@ -123,16 +123,11 @@ fn is_asked(alloc: Global, builder: &Set) -> Result<bool, Memory> {
     )
 }
 
-fn put_values(alloc: Global, builder: &mut Set, numbers: &[i64]) -> Result<(), Memory> {
-    let values = values_of(alloc, numbers)?;
-    let _answer = builder.union_with(alloc, values.as_slice());
-    Ok(())
-}
-
 // A new builder of what is published.
 fn set_of(alloc: Global, numbers: &[i64]) -> Result<Set, Memory> {
     let mut builder = SetBuilder::from(&SortedSet::new(ValOrder::Reverse))?;
-    put_values(alloc, &mut builder, numbers)?;
+    let values = values_of(alloc, numbers)?;
+    let _answer = builder.union_with(alloc, values.as_slice());
     SetBuilder::from(&builder.to_immutable(alloc)?)
 }
 
