@@ -25,29 +25,43 @@ fn tree_is(tree: &Tree<Val>, first: i64, second: i64, count: u32) -> bool {
         && tree.count() == count
 }
 
+fn freezes_what_changed(alloc: Global, link: &mut Link<Val>) -> Result<bool, TreeFault> {
+    change(alloc, link)?;
+    Ok(tree_is(&link.freeze(alloc)?, 9, 2, 99))
+}
+
 #[test]
 fn what_was_frozen_stays_through_later_changes(rt: HostRuntime) -> Result<(), Fail> {
     let alloc = rt.alloc();
-    let mut link = counted_up(alloc, 100).ok().ok_or("memory")?;
-    let frozen = link.freeze(alloc).ok().ok_or("memory")?;
-    assert!(rt; change(alloc, &mut link).is_ok());
-    let changed = link.freeze(alloc).ok().ok_or("memory")?;
+    let mut link = counted_up(alloc, 100)?;
+    let frozen = link.freeze(alloc)?;
+    assert!(rt; freezes_what_changed(alloc, &mut link)?);
     assert!(rt; tree_is(&frozen, 0, 1, 100));
-    assert!(rt; tree_is(&changed, 9, 2, 99));
     Ok(())
+}
+
+// 3 and 5, as another tree has them.
+fn three_and_five(alloc: Global) -> Result<Link<Val>, TreeFault> {
+    let tree = Tree::from_slice(alloc, &[Val::Int(3), Val::Int(5)])?;
+    Ok(Link::of_tree(&tree)?)
+}
+
+fn is_read(link: &Link<Val>) -> bool {
+    link.search_by(&Val::Int(4), &ValOrder::Ordinal) == Err(1)
+        && link.any(&ValTest::Is(Val::Int(5)))
+        && link.is_sorted(&ValOrder::Ordinal)
+}
+
+fn refuses_the_place_2(alloc: Global, link: &mut Link<Val>) -> bool {
+    let refusal = TreeFault::OutOfRange { index: 2, count: 2 };
+    link.remove_own(alloc, 2) == Err(refusal) && link.count() == 2
 }
 
 #[test]
 fn a_shared_tree_is_read_and_refuses_what_is_out_of_range(rt: HostRuntime) -> Result<(), Fail> {
     let alloc = rt.alloc();
-    let tree = Tree::from_slice(alloc, &[Val::Int(3), Val::Int(5)]);
-    let tree = tree.ok().ok_or("memory")?;
-    let mut link = Link::of_tree(&tree).ok().ok_or("memory")?;
-    assert!(rt; link.search_by(&Val::Int(4), &ValOrder::Ordinal) == Err(1));
-    assert!(rt; link.any(&ValTest::Is(Val::Int(5))));
-    assert!(rt; link.is_sorted(&ValOrder::Ordinal));
-    let refusal = TreeFault::OutOfRange { index: 2, count: 2 };
-    assert!(rt; link.remove_own(alloc, 2) == Err(refusal));
-    assert!(rt; link.count() == 2);
+    let mut link = three_and_five(alloc)?;
+    assert!(rt; is_read(&link));
+    assert!(rt; refuses_the_place_2(alloc, &mut link));
     Ok(())
 }

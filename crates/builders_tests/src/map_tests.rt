@@ -1,6 +1,6 @@
 // The builder of sorted maps.
-use builders::*;
 use builders::laws::Builder;
+use builders::*;
 use imm_base::{MapFault, Memory, Step, Val, ValOrder};
 use sorted_maps::SortedMap;
 use std::alloc::Global;
@@ -73,43 +73,57 @@ fn changes_one_pair(alloc: Global, builder: &mut Map) -> bool {
         && answers(alloc, builder, MapChange::Clear, Ok(Step::New), 4, 0)
 }
 
-// The map has 10 at 3, 4 and 5.
-fn changes_many(alloc: Global, builder: &mut Map) -> Result<bool, Memory> {
-    let add = MapChange::AddRange(pairs_of(alloc, &[3, 6, 7])?);
-    let set = MapChange::SetItems(pairs_of(alloc, &[3, 4])?);
+fn adds_pairs(alloc: Global, builder: &mut Map) -> Result<bool, Memory> {
+    let change = MapChange::AddRange(pairs_of(alloc, &[3, 6, 7])?);
+    Ok(answers(alloc, builder, change, Ok(Step::New), 1, 5))
+}
+
+fn sets_pairs(alloc: Global, builder: &mut Map) -> Result<bool, Memory> {
+    let change = MapChange::SetItems(pairs_of(alloc, &[3, 4])?);
+    Ok(answers(alloc, builder, change, Ok(Step::Same), 1, 5))
+}
+
+fn removes_keys(alloc: Global, builder: &mut Map) -> Result<bool, Memory> {
     let mut keys = Vec::new(alloc);
     keys.push(Val::Int(3))?;
-    Ok(
-        answers(alloc, builder, add, Ok(Step::New), 1, 5)
-            && answers(alloc, builder, set, Ok(Step::Same), 1, 5)
-            && answers(
-                alloc,
-                builder,
-                MapChange::RemoveRange(keys),
-                Ok(Step::New),
-                2,
-                4,
-            ),
-    )
+    let change = MapChange::RemoveRange(keys);
+    Ok(answers(alloc, builder, change, Ok(Step::New), 2, 4))
+}
+
+// The map has 10 at 3, 4 and 5.
+fn changes_many(alloc: Global, builder: &mut Map) -> Result<bool, Memory> {
+    Ok(adds_pairs(alloc, builder)? && sets_pairs(alloc, builder)? && removes_keys(alloc, builder)?)
+}
+
+fn has_three_keys(alloc: Global, builder: &Map) -> Result<bool, Memory> {
+    Ok(builder.keys(alloc)?.len() == 3)
+}
+
+fn has_three_values(alloc: Global, builder: &Map) -> Result<bool, Memory> {
+    Ok(builder.values(alloc)?.len() == 3)
 }
 
 // The map has 10 at 3, 4 and 5.
 fn is_asked(alloc: Global, builder: &Map) -> Result<bool, Memory> {
-    let keys = builder.keys(alloc)?;
-    let values = builder.values(alloc)?;
     Ok(
-        keys.len() == 3
-            && values.len() == 3
+        has_three_keys(alloc, builder)?
+            && has_three_values(alloc, builder)?
             && builder.get_key(&Val::Int(6)).is_none()
             && builder.contains_value(&Val::Int(10))
             && builder.order() == ValOrder::Ordinal,
     )
 }
 
-fn map_of(alloc: Global, keys: &[i64]) -> Result<Map, Memory> {
-    let mut builder = MapBuilder::from(&SortedMap::new(ValOrder::Ordinal))?;
+fn put_pairs(alloc: Global, builder: &mut Map, keys: &[i64]) -> Result<(), Memory> {
     let pairs = pairs_of(alloc, keys)?;
     let _answer = builder.add_range(alloc, pairs.as_slice());
+    Ok(())
+}
+
+// A new builder of what is published.
+fn map_of(alloc: Global, keys: &[i64]) -> Result<Map, Memory> {
+    let mut builder = MapBuilder::from(&SortedMap::new(ValOrder::Ordinal))?;
+    put_pairs(alloc, &mut builder, keys)?;
     MapBuilder::from(&builder.to_immutable(alloc)?)
 }
 

@@ -128,19 +128,32 @@ fn is_changed<'a>(
     Ok(stands)
 }
 
+fn publishes_the_last(alloc: Global, builder: &mut Elements<'_>) -> Result<bool, Memory> {
+    match published(alloc, builder, 2)? {
+        Some(list) => Ok(is_published(&list, 2)),
+        None => Ok(false),
+    }
+}
+
+// Makes both changes and publishes again, and says whether each refusal left all as it was.
+fn goes_on<'a>(
+    alloc: Global,
+    builder: &mut Elements<'a>,
+    copies: &'a Cell<u32>,
+) -> Result<bool, ListFault> {
+    let is_set = is_changed(alloc, builder, 0, copies)?;
+    let is_removed = is_changed(alloc, builder, 1, copies)?;
+    Ok(is_set && is_removed && publishes_the_last(alloc, builder)?)
+}
+
 // Builds, publishes, changes and publishes again, and says whether each refusal left all as it was,
 // and what was published is what it was.
 fn stands(alloc: Global, copies: &Cell<u32>) -> Result<bool, ListFault> {
     let mut builder = fifty(alloc, copies)?;
-    let Some(first) = published(alloc, &mut builder, 0)? else {
-        return Ok(false);
-    };
-    let is_set = is_changed(alloc, &mut builder, 0, copies)?;
-    let is_removed = is_changed(alloc, &mut builder, 1, copies)?;
-    let Some(second) = published(alloc, &mut builder, 2)? else {
-        return Ok(false);
-    };
-    Ok(is_set && is_removed && is_published(&first, 0) && is_published(&second, 2))
+    match published(alloc, &mut builder, 0)? {
+        Some(first) => Ok(goes_on(alloc, &mut builder, copies)? && is_published(&first, 0)),
+        None => Ok(false),
+    }
 }
 
 #[test]

@@ -1,6 +1,6 @@
 // The builder of sorted sets.
-use builders::*;
 use builders::laws::Builder;
+use builders::*;
 use imm_base::{Memory, SetTest, Step, Val, ValOrder};
 use sorted_sets::SortedSet;
 use std::alloc::Global;
@@ -75,27 +75,45 @@ fn changes_one_element(alloc: Global, builder: &mut Set) -> bool {
     ) && answers(alloc, builder, SetChange::Clear, Step::New, 3, &[])
 }
 
+fn unites(alloc: Global, builder: &mut Set) -> Result<bool, Memory> {
+    let change = SetChange::UnionWith(values_of(alloc, &[3, 4])?);
+    Ok(answers(alloc, builder, change, Step::New, 1, &[5, 4, 3, 1]))
+}
+
+fn intersects(alloc: Global, builder: &mut Set) -> Result<bool, Memory> {
+    let change = SetChange::IntersectWith(values_of(alloc, &[1, 4, 5])?);
+    Ok(answers(alloc, builder, change, Step::New, 2, &[5, 4, 1]))
+}
+
+fn excepts(alloc: Global, builder: &mut Set) -> Result<bool, Memory> {
+    let change = SetChange::ExceptWith(values_of(alloc, &[2])?);
+    Ok(answers(alloc, builder, change, Step::Same, 2, &[5, 4, 1]))
+}
+
+fn takes_either(alloc: Global, builder: &mut Set) -> Result<bool, Memory> {
+    let change = SetChange::SymExceptWith(values_of(alloc, &[5, 6])?);
+    Ok(answers(alloc, builder, change, Step::New, 3, &[6, 4, 1]))
+}
+
 // The set is 5, 3, 1.
 fn changes_many(alloc: Global, builder: &mut Set) -> Result<bool, Memory> {
-    let union = SetChange::UnionWith(values_of(alloc, &[3, 4])?);
-    let intersect = SetChange::IntersectWith(values_of(alloc, &[1, 4, 5])?);
-    let except = SetChange::ExceptWith(values_of(alloc, &[2])?);
-    let either = SetChange::SymExceptWith(values_of(alloc, &[5, 6])?);
     Ok(
-        answers(alloc, builder, union, Step::New, 1, &[5, 4, 3, 1])
-            && answers(alloc, builder, intersect, Step::New, 2, &[5, 4, 1])
-            && answers(alloc, builder, except, Step::Same, 2, &[5, 4, 1])
-            && answers(alloc, builder, either, Step::New, 3, &[6, 4, 1]),
+        unites(alloc, builder)?
+            && intersects(alloc, builder)?
+            && excepts(alloc, builder)?
+            && takes_either(alloc, builder)?,
     )
+}
+
+fn has_three_elements(alloc: Global, builder: &Set) -> Result<bool, Memory> {
+    Ok(builder.to_vec(alloc)?.len() == 3)
 }
 
 // The set is 5, 3, 1.
 fn is_asked(alloc: Global, builder: &Set) -> Result<bool, Memory> {
-    let subset = builder.relation(alloc, SetTest::Superset, &[Val::Int(1)])?;
-    let values = builder.to_vec(alloc)?;
     Ok(
-        subset
-            && values.len() == 3
+        builder.relation(alloc, SetTest::Superset, &[Val::Int(1)])?
+            && has_three_elements(alloc, builder)?
             && builder.contains(&Val::Int(3))
             && builder.actual(&Val::Int(4)).is_none()
             && builder.index_of(&Val::Int(4)) == -2
@@ -105,10 +123,16 @@ fn is_asked(alloc: Global, builder: &Set) -> Result<bool, Memory> {
     )
 }
 
-fn set_of(alloc: Global, numbers: &[i64]) -> Result<Set, Memory> {
-    let mut builder = SetBuilder::from(&SortedSet::new(ValOrder::Reverse))?;
+fn put_values(alloc: Global, builder: &mut Set, numbers: &[i64]) -> Result<(), Memory> {
     let values = values_of(alloc, numbers)?;
     let _answer = builder.union_with(alloc, values.as_slice());
+    Ok(())
+}
+
+// A new builder of what is published.
+fn set_of(alloc: Global, numbers: &[i64]) -> Result<Set, Memory> {
+    let mut builder = SetBuilder::from(&SortedSet::new(ValOrder::Reverse))?;
+    put_values(alloc, &mut builder, numbers)?;
     SetBuilder::from(&builder.to_immutable(alloc)?)
 }
 

@@ -1,5 +1,5 @@
-use builders::*;
 use builders::laws::{Builder, published_stays};
+use builders::*;
 use imm_base::{Memory, Step, Val, ValOrder, ValTest};
 use imm_list::{ImmList, ListFault};
 use std::alloc::Global;
@@ -49,48 +49,46 @@ fn answers(
     builder.version() == version && has_numbers(builder, numbers)
 }
 
-// The list is 5, 3, 9, 3.
-fn changes_one_element(alloc: Global, builder: &mut Numbers) -> bool {
-    let (one, seven) = (Val::Int(1), Val::Int(7));
-    let insert = ListChange::Insert {
+fn adds(alloc: Global, builder: &mut Numbers) -> bool {
+    let change = ListChange::Add(Val::Int(1));
+    answers(alloc, builder, change, Ok(Step::New), 1, &[5, 3, 9, 3, 1])
+}
+
+fn refuses_to_insert(alloc: Global, builder: &mut Numbers) -> bool {
+    let change = ListChange::Insert {
         index: 6,
-        value: seven,
+        value: Val::Int(7),
     };
     let refused = Err(ListFault::OutOfRange { index: 6, count: 5 });
-    answers(
-        alloc,
-        builder,
-        ListChange::Add(one),
-        Ok(Step::New),
-        1,
-        &[5, 3, 9, 3, 1],
-    ) && answers(alloc, builder, insert, refused, 1, &[5, 3, 9, 3, 1])
+    answers(alloc, builder, change, refused, 1, &[5, 3, 9, 3, 1])
 }
 
 // The list is 5, 3, 9, 3.
-fn removes_and_replaces(alloc: Global, builder: &mut Numbers) -> bool {
-    let replace = ListChange::Replace {
+fn changes_one_element(alloc: Global, builder: &mut Numbers) -> bool {
+    adds(alloc, builder) && refuses_to_insert(alloc, builder)
+}
+
+fn removes(
+    alloc: Global,
+    builder: &mut Numbers,
+    number: i64,
+    wanted: Step,
+    version: u64,
+    numbers: &[i64],
+) -> bool {
+    let change = ListChange::Remove(Val::Int(number));
+    answers(alloc, builder, change, Ok(wanted), version, numbers)
+}
+
+fn does_not_find(alloc: Global, builder: &mut Numbers) -> bool {
+    let change = ListChange::Replace {
         old: Val::Int(4),
         value: Val::Int(2),
     };
     answers(
         alloc,
         builder,
-        ListChange::Remove(Val::Int(4)),
-        Ok(Step::Same),
-        0,
-        &[5, 3, 9, 3],
-    ) && answers(
-        alloc,
-        builder,
-        ListChange::Remove(Val::Int(3)),
-        Ok(Step::New),
-        1,
-        &[5, 9, 3],
-    ) && answers(
-        alloc,
-        builder,
-        replace,
+        change,
         Err(ListFault::NotFound),
         1,
         &[5, 9, 3],
@@ -98,44 +96,75 @@ fn removes_and_replaces(alloc: Global, builder: &mut Numbers) -> bool {
 }
 
 // The list is 5, 3, 9, 3.
-fn sets_and_removes_places(alloc: Global, builder: &mut Numbers) -> bool {
-    let set = ListChange::SetItem {
+fn removes_and_replaces(alloc: Global, builder: &mut Numbers) -> bool {
+    removes(alloc, builder, 4, Step::Same, 0, &[5, 3, 9, 3])
+        && removes(alloc, builder, 3, Step::New, 1, &[5, 9, 3])
+        && does_not_find(alloc, builder)
+}
+
+fn sets_a_place(alloc: Global, builder: &mut Numbers) -> bool {
+    let change = ListChange::SetItem {
         index: 3,
         value: Val::Int(3),
     };
-    let remove = ListChange::RemoveAt { index: 0 };
-    answers(alloc, builder, set, Ok(Step::New), 1, &[5, 3, 9, 3])
-        && answers(alloc, builder, remove, Ok(Step::New), 2, &[3, 9, 3])
-        && answers(alloc, builder, ListChange::Clear, Ok(Step::New), 3, &[])
-        && answers(alloc, builder, ListChange::Clear, Ok(Step::Same), 3, &[])
+    answers(alloc, builder, change, Ok(Step::New), 1, &[5, 3, 9, 3])
+}
+
+fn removes_a_place(alloc: Global, builder: &mut Numbers) -> bool {
+    let change = ListChange::RemoveAt { index: 0 };
+    answers(alloc, builder, change, Ok(Step::New), 2, &[3, 9, 3])
+}
+
+fn clears(alloc: Global, builder: &mut Numbers, wanted: Step) -> bool {
+    answers(alloc, builder, ListChange::Clear, Ok(wanted), 3, &[])
+}
+
+// The list is 5, 3, 9, 3.
+fn sets_and_removes_places(alloc: Global, builder: &mut Numbers) -> bool {
+    sets_a_place(alloc, builder)
+        && removes_a_place(alloc, builder)
+        && clears(alloc, builder, Step::New)
+        && clears(alloc, builder, Step::Same)
+}
+
+fn adds_many(alloc: Global, builder: &mut Numbers) -> Result<bool, Memory> {
+    let change = ListChange::AddRange(values_of(alloc, &[1, 2])?);
+    Ok(answers(
+        alloc,
+        builder,
+        change,
+        Ok(Step::New),
+        1,
+        &[5, 3, 9, 3, 1, 2],
+    ))
+}
+
+fn inserts_one(alloc: Global, builder: &mut Numbers) -> Result<bool, Memory> {
+    let change = ListChange::InsertRange {
+        index: 1,
+        values: values_of(alloc, &[7])?,
+    };
+    Ok(answers(
+        alloc,
+        builder,
+        change,
+        Ok(Step::New),
+        2,
+        &[5, 7, 3, 9, 3, 1, 2],
+    ))
+}
+
+fn removes_three(alloc: Global, builder: &mut Numbers) -> bool {
+    let change = ListChange::RemoveRange { index: 2, count: 3 };
+    answers(alloc, builder, change, Ok(Step::New), 3, &[5, 7, 1, 2])
 }
 
 // The list is 5, 3, 9, 3.
 fn changes_ranges(alloc: Global, builder: &mut Numbers) -> Result<bool, Memory> {
-    let add = ListChange::AddRange(values_of(alloc, &[1, 2])?);
-    let insert = ListChange::InsertRange {
-        index: 1,
-        values: values_of(alloc, &[7])?,
-    };
-    let remove = ListChange::RemoveRange { index: 2, count: 3 };
-    Ok(
-        answers(alloc, builder, add, Ok(Step::New), 1, &[5, 3, 9, 3, 1, 2])
-            && answers(
-                alloc,
-                builder,
-                insert,
-                Ok(Step::New),
-                2,
-                &[5, 7, 3, 9, 3, 1, 2],
-            )
-            && answers(alloc, builder, remove, Ok(Step::New), 3, &[5, 7, 1, 2]),
-    )
+    Ok(adds_many(alloc, builder)? && inserts_one(alloc, builder)? && removes_three(alloc, builder))
 }
 
-// The list is 5, 3, 9, 3.
-fn changes_all(alloc: Global, builder: &mut Numbers) -> bool {
-    let above = ListChange::RemoveAll(ValTest::Above(Val::Int(4)));
-    let sort = ListChange::Sort(ValOrder::Ordinal);
+fn reverses(alloc: Global, builder: &mut Numbers) -> bool {
     answers(
         alloc,
         builder,
@@ -143,8 +172,22 @@ fn changes_all(alloc: Global, builder: &mut Numbers) -> bool {
         Ok(Step::New),
         1,
         &[3, 9, 3, 5],
-    ) && answers(alloc, builder, sort, Ok(Step::New), 2, &[3, 3, 5, 9])
-        && answers(alloc, builder, above, Ok(Step::New), 3, &[3, 3])
+    )
+}
+
+fn sorts(alloc: Global, builder: &mut Numbers) -> bool {
+    let change = ListChange::Sort(ValOrder::Ordinal);
+    answers(alloc, builder, change, Ok(Step::New), 2, &[3, 3, 5, 9])
+}
+
+fn removes_what_is_above(alloc: Global, builder: &mut Numbers) -> bool {
+    let change = ListChange::RemoveAll(ValTest::Above(Val::Int(4)));
+    answers(alloc, builder, change, Ok(Step::New), 3, &[3, 3])
+}
+
+// The list is 5, 3, 9, 3.
+fn changes_all(alloc: Global, builder: &mut Numbers) -> bool {
+    reverses(alloc, builder) && sorts(alloc, builder) && removes_what_is_above(alloc, builder)
 }
 
 // The list is 5, 3, 9, 3.
@@ -162,15 +205,31 @@ fn is_searched(builder: &Numbers) -> bool {
         && builder.binary_search(&Val::Int(9), &ValOrder::Ordinal) == -5
 }
 
+fn list(alloc: Global) -> Result<Numbers, ListFault> {
+    numbers_of(alloc, &[5, 3, 9, 3])
+}
+
 #[test]
-fn a_list_is_built_by_the_calls_of_a_list(rt: HostRuntime) -> Result<(), Fail> {
+fn a_list_is_changed_by_the_calls_of_a_list(rt: HostRuntime) -> Result<(), Fail> {
     let alloc = rt.alloc();
-    assert!(rt; changes_one_element(alloc, &mut numbers_of(alloc, &[5, 3, 9, 3])?));
-    assert!(rt; removes_and_replaces(alloc, &mut numbers_of(alloc, &[5, 3, 9, 3])?));
-    assert!(rt; sets_and_removes_places(alloc, &mut numbers_of(alloc, &[5, 3, 9, 3])?));
-    assert!(rt; changes_ranges(alloc, &mut numbers_of(alloc, &[5, 3, 9, 3])?)?);
-    assert!(rt; changes_all(alloc, &mut numbers_of(alloc, &[5, 3, 9, 3])?));
-    assert!(rt; is_asked(&numbers_of(alloc, &[5, 3, 9, 3])?));
+    assert!(rt; changes_one_element(alloc, &mut list(alloc)?));
+    assert!(rt; removes_and_replaces(alloc, &mut list(alloc)?));
+    assert!(rt; sets_and_removes_places(alloc, &mut list(alloc)?));
+    Ok(())
+}
+
+#[test]
+fn a_list_is_changed_by_ranges(rt: HostRuntime) -> Result<(), Fail> {
+    let alloc = rt.alloc();
+    assert!(rt; changes_ranges(alloc, &mut list(alloc)?)?);
+    assert!(rt; changes_all(alloc, &mut list(alloc)?));
+    Ok(())
+}
+
+#[test]
+fn a_builder_is_asked_as_a_list(rt: HostRuntime) -> Result<(), Fail> {
+    let alloc = rt.alloc();
+    assert!(rt; is_asked(&list(alloc)?));
     assert!(rt; is_searched(&numbers_of(alloc, &[1, 3, 3, 7])?));
     Ok(())
 }
@@ -183,21 +242,28 @@ fn some_changes(alloc: Global) -> Result<Vec<Change>, Memory> {
     Ok(changes)
 }
 
+// The list is 5, 3, 9, 3.
+fn is_the_first(published: &ImmList<Val>) -> bool {
+    published.count() == 4 && published.get(2) == Ok(&Val::Int(9))
+}
+
 // Publishes the builder before the changes, and says whether it is 5, 3, 9, 3 that was published.
-fn keeps_what_it_published(alloc: Global, builder: &mut Numbers) -> Result<bool, Memory> {
-    let changes = some_changes(alloc)?;
+fn keeps_what_it_published(
+    alloc: Global,
+    builder: &mut Numbers,
+    changes: Vec<Change>,
+) -> Result<bool, Memory> {
     if builder.version() > 0 || changes.len() > 9 {
         return Ok(false);
     }
-    let published = published_stays(alloc, builder, changes)?;
-    Ok(published.count() == 4 && published.get(2) == Ok(&Val::Int(9)))
+    Ok(is_the_first(&published_stays(alloc, builder, changes)?))
 }
 
 #[test]
 fn what_was_published_stays(rt: HostRuntime) -> Result<(), Fail> {
     let alloc = rt.alloc();
     let mut builder = numbers_of(alloc, &[5, 3, 9, 3])?;
-    assert!(rt; keeps_what_it_published(alloc, &mut builder)?);
+    assert!(rt; keeps_what_it_published(alloc, &mut builder, some_changes(alloc)?)?);
     assert!(rt; has_numbers(&builder, &[1, 3, 3, 5, 9]));
     Ok(())
 }

@@ -1,8 +1,8 @@
 //! Worked examples of walks along builders.
 
 use crate::tests::{first_three, one, shows, started};
-use enumerators::{WalkFault, Walked};
 use builders::{DictBuilder, HashSetBuilder, ListBuilder, MapBuilder, SetBuilder};
+use enumerators::{WalkFault, Walked};
 use imm_base::{Edit, Memory, Step, Val, ValEq, ValOrder};
 use imm_dictionary::{Dict, ImmHashSet};
 use imm_list::ImmList;

@@ -1,7 +1,7 @@
-use imm_dictionary::*;
 use avl_node::TreeFault;
 use hash_bucket::{Bucket, HashTree};
 use imm_base::{Edit, HashEq, LIMIT, MapFault, Memory, SetFault, SetTest, Text24, Val, ValEq};
+use imm_dictionary::*;
 use std::alloc::Global;
 use std::cell::Cell;
 use std::test::Fail;
@@ -101,56 +101,102 @@ fn number(value: i64) -> Val {
     Val::Int(value)
 }
 
-// The set is "a", "B", whatever the case; in ordinal order "B" is first.
-fn set_changes_in_one(alloc: Global, set: &Set) -> bool {
+fn removes_in_a_set(alloc: Global, set: &Set) -> bool {
     is_new_set(alloc, set.remove(alloc, &capital_a()), &[capital_b()])
-        && matches!(set.add(alloc, capital_a()), Ok(Edit::Same))
-        && is_new_set(alloc, Ok(set.clear()), &[])
 }
 
-fn set_changes_in_many(alloc: Global, set: &Set) -> bool {
+fn adds_none_to_a_set(alloc: Global, set: &Set) -> bool {
+    matches!(set.add(alloc, capital_a()), Ok(Edit::Same))
+}
+
+fn clears_a_set(alloc: Global, set: &Set) -> bool {
+    is_new_set(alloc, Ok(set.clear()), &[])
+}
+
+fn intersects(alloc: Global, set: &Set) -> bool {
     is_new_set(alloc, set.intersect_with(alloc, &[b()]), &[capital_b()])
-        && is_new_set(
-            alloc,
-            set.except_with(alloc, &[capital_a()]),
-            &[capital_b()],
-        )
-        && is_new_set(
-            alloc,
-            set.sym_except_with(alloc, &[capital_a(), c()]),
-            &[capital_b(), c()],
-        )
-        && is_new_set(
-            alloc,
-            set.union_with(alloc, &[capital_a(), c()]),
-            &[capital_b(), a(), c()],
-        )
+}
+
+fn excepts(alloc: Global, set: &Set) -> bool {
+    is_new_set(
+        alloc,
+        set.except_with(alloc, &[capital_a()]),
+        &[capital_b()],
+    )
+}
+
+fn takes_either(alloc: Global, set: &Set) -> bool {
+    is_new_set(
+        alloc,
+        set.sym_except_with(alloc, &[capital_a(), c()]),
+        &[capital_b(), c()],
+    )
+}
+
+fn unites(alloc: Global, set: &Set) -> bool {
+    is_new_set(
+        alloc,
+        set.union_with(alloc, &[capital_a(), c()]),
+        &[capital_b(), a(), c()],
+    )
+}
+
+// The set is "a", "B", whatever the case; in ordinal order "B" is first.
+fn set_changes(alloc: Global, set: &Set) -> bool {
+    removes_in_a_set(alloc, set)
+        && adds_none_to_a_set(alloc, set)
+        && clears_a_set(alloc, set)
+        && intersects(alloc, set)
+        && excepts(alloc, set)
+        && takes_either(alloc, set)
+        && unites(alloc, set)
+}
+
+fn has_its_spelling(set: &Set) -> bool {
+    set.actual(&capital_a()) == Some(&a())
+}
+
+fn is_superset_of_one(alloc: Global, set: &Set) -> bool {
+    matches!(
+        set.relation(alloc, SetTest::ProperSuperset, &[b()]),
+        Ok(true)
+    )
+}
+
+fn is_kept_under_another_equality(alloc: Global, set: &Set) -> bool {
+    is_new_set(
+        alloc,
+        set.with_comparer(alloc, ValEq::Ordinal),
+        &[capital_b(), a()],
+    )
 }
 
 fn set_answers(alloc: Global, set: &Set) -> bool {
     is_set_of(alloc, set, &[capital_b(), a()])
-        && set.actual(&capital_a()) == Some(&a())
-        && matches!(
-            set.relation(alloc, SetTest::ProperSuperset, &[b()]),
-            Ok(true)
-        )
-        && is_new_set(
-            alloc,
-            set.with_comparer(alloc, ValEq::Ordinal),
-            &[capital_b(), a()],
-        )
+        && has_its_spelling(set)
+        && is_superset_of_one(alloc, set)
+        && is_kept_under_another_equality(alloc, set)
+}
+
+fn shared_set_answers(alloc: Global, set: &Set) -> Result<bool, Memory> {
+    let shared = ImmHashSet::of_elements(set.elements().share()?);
+    Ok(set_answers(alloc, &shared.share()?))
+}
+
+fn a_and_capital_b(alloc: Global) -> Result<Option<Set>, SetFault> {
+    let empty: Set = ImmHashSet::new(ValEq::NoCase);
+    match empty.union_with(alloc, &[a(), capital_b()])? {
+        Edit::New(set) => Ok(Some(set)),
+        Edit::Same => Ok(None),
+    }
 }
 
 #[test]
 fn sets_answer_in_ordinal_order(rt: HostRuntime) -> Result<(), Fail> {
     let alloc = rt.alloc();
-    let empty: Set = ImmHashSet::new(ValEq::NoCase);
-    if let Edit::New(set) = empty.union_with(alloc, &[text(b"a"), text(b"B")])? {
-        let shared = ImmHashSet::of_elements(set.elements().share()?);
-        assert!(rt; set_changes_in_one(alloc, &set));
-        assert!(rt; set_changes_in_many(alloc, &set));
-        assert!(rt; set_answers(alloc, &shared.share()?));
-    }
+    let set = a_and_capital_b(alloc)?.ok_or("a set")?;
+    assert!(rt; set_changes(alloc, &set));
+    assert!(rt; shared_set_answers(alloc, &set)?);
     Ok(())
 }
 
@@ -163,103 +209,181 @@ fn is_present(made: Result<Edit<Map>, MapFault<Val>>, value: i64) -> bool {
     }
 }
 
-// The map is "a"=1, "b"=2, whatever the case.
-fn map_changes_in_one(alloc: Global, map: &Map) -> bool {
+fn removes_in_a_map(alloc: Global, map: &Map) -> bool {
     is_new_map(alloc, map.remove(alloc, &capital_b()), &[(a(), number(1))])
-        && is_new_map(
-            alloc,
-            map.set_item(alloc, capital_b(), number(5)),
-            &[(capital_b(), number(5)), (a(), number(1))],
-        )
-        && matches!(map.add(alloc, capital_a(), number(1)), Ok(Edit::Same))
-        && is_present(map.add(alloc, capital_a(), number(2)), 1)
-        && is_new_map(alloc, Ok(map.clear()), &[])
 }
 
-fn map_changes_in_many(alloc: Global, map: &Map) -> bool {
+fn sets_in_a_map(alloc: Global, map: &Map) -> bool {
+    is_new_map(
+        alloc,
+        map.set_item(alloc, capital_b(), number(5)),
+        &[(capital_b(), number(5)), (a(), number(1))],
+    )
+}
+
+fn adds_none_to_a_map(alloc: Global, map: &Map) -> bool {
+    matches!(map.add(alloc, capital_a(), number(1)), Ok(Edit::Same))
+}
+
+fn is_refused_another_value(alloc: Global, map: &Map) -> bool {
+    is_present(map.add(alloc, capital_a(), number(2)), 1)
+}
+
+fn clears_a_map(alloc: Global, map: &Map) -> bool {
+    is_new_map(alloc, Ok(map.clear()), &[])
+}
+
+// The map is "a"=1, "b"=2, whatever the case.
+fn map_changes_in_one(alloc: Global, map: &Map) -> bool {
+    removes_in_a_map(alloc, map)
+        && sets_in_a_map(alloc, map)
+        && adds_none_to_a_map(alloc, map)
+        && is_refused_another_value(alloc, map)
+        && clears_a_map(alloc, map)
+}
+
+fn adds_a_range(alloc: Global, map: &Map) -> bool {
     is_new_map(
         alloc,
         map.add_range(alloc, &[(c(), number(5))]),
         &[(a(), number(1)), (b(), number(2)), (c(), number(5))],
-    ) && is_new_map(
+    )
+}
+
+fn sets_a_range(alloc: Global, map: &Map) -> bool {
+    is_new_map(
         alloc,
         map.set_items(alloc, &[(capital_a(), number(1)), (capital_b(), number(5))]),
         &[(capital_b(), number(5)), (a(), number(1))],
-    ) && is_new_map(
+    )
+}
+
+fn removes_a_range(alloc: Global, map: &Map) -> bool {
+    is_new_map(
         alloc,
         map.remove_range(alloc, &[capital_a(), capital_b()]),
         &[],
     )
 }
 
+// The map is "a"=1, "b"=2, whatever the case.
+fn map_changes_in_many(alloc: Global, map: &Map) -> bool {
+    adds_a_range(alloc, map) && sets_a_range(alloc, map) && removes_a_range(alloc, map)
+}
+
+fn has_a_value(map: &Map, key: &Val, value: i64) -> bool {
+    map.get(key) == Some(&number(value))
+}
+
 fn map_answers(alloc: Global, map: &Map) -> bool {
     is_map_of(alloc, map, &[(a(), number(1)), (b(), number(2))])
-        && map.get(&capital_b()) == Some(&number(2))
+        && has_a_value(map, &capital_b(), 2)
         && map.get_key(&capital_a()) == Some(&a())
         && map.contains_value(&number(2))
 }
 
-// "A"=2 and "a"=1 have one key in small letters: the pair that is present is "A"=2.
-fn rekey_is_refused(alloc: Global) -> Result<bool, MapFault<Val>> {
-    let empty: Map = Dict::new(ValEq::Ordinal);
-    let pairs = [(a(), number(1)), (capital_a(), number(2))];
-    let Edit::New(map) = empty.add_range(alloc, &pairs)? else {
-        return Ok(false);
-    };
-    let refused = map.with_comparer(alloc, ValEq::NoCase);
-    Ok(is_present(refused, 2))
+fn has_its_keys(alloc: Global, map: &Map) -> bool {
+    matches!(map.keys(alloc), Ok(keys) if keys.as_slice() == [a(), b()].as_slice())
+}
+
+fn has_two_values(alloc: Global, map: &Map) -> bool {
+    matches!(map.values(alloc), Ok(values) if values.len() == 2)
+}
+
+fn is_shared(map: &Map) -> bool {
+    matches!(map.share(), Ok(shared) if shared.count() == 2)
+}
+
+fn map_of(alloc: Global, eq: ValEq, pairs: &[(Val, Val)]) -> Result<Option<Map>, MapFault<Val>> {
+    let empty: Map = Dict::new(eq);
+    match empty.add_range(alloc, pairs)? {
+        Edit::New(map) => Ok(Some(map)),
+        Edit::Same => Ok(None),
+    }
 }
 
 #[test]
-fn maps_answer_in_ordinal_order(rt: HostRuntime) {
+fn maps_answer_in_ordinal_order(rt: HostRuntime) -> Result<(), Fail> {
     let alloc = rt.alloc();
-    let empty: Map = Dict::new(ValEq::NoCase);
     let pairs = [(a(), number(1)), (b(), number(2))];
-    if let Ok(Edit::New(map)) = empty.add_range(alloc, &pairs) {
-        assert!(rt; map_changes_in_one(alloc, &map));
-        assert!(rt; map_changes_in_many(alloc, &map));
-        assert!(rt; map_answers(alloc, &map));
-        assert!(rt;
-            matches!(map.keys(alloc), Ok(keys) if keys.as_slice() == [a(), b()].as_slice())
-        );
-        assert!(rt; matches!(map.values(alloc), Ok(values) if values.len() == 2));
-        assert!(rt; matches!(map.share(), Ok(shared) if shared.count() == 2));
+    let map = map_of(alloc, ValEq::NoCase, &pairs)?;
+    let map = map.ok_or("a map")?;
+    assert!(rt; map_changes_in_one(alloc, &map));
+    assert!(rt; map_changes_in_many(alloc, &map));
+    assert!(rt; map_answers(alloc, &map) && is_shared(&map));
+    assert!(rt; has_its_keys(alloc, &map) && has_two_values(alloc, &map));
+    Ok(())
+}
+
+fn is_rekeyed_to(alloc: Global, map: &Map, value: i64) -> bool {
+    is_present(map.with_comparer(alloc, ValEq::NoCase), value)
+}
+
+// "A"=2 and "a"=1 have one key in small letters: the pair that is present is "A"=2.
+#[test]
+fn two_pairs_with_one_key_are_refused(rt: HostRuntime) -> Result<(), Fail> {
+    let alloc = rt.alloc();
+    let pairs = [(a(), number(1)), (capital_a(), number(2))];
+    let map = map_of(alloc, ValEq::Ordinal, &pairs)?;
+    assert!(rt; is_rekeyed_to(alloc, &map.ok_or("a map")?, 2));
+    Ok(())
+}
+
+fn one_pair(alloc: Global, eq: ValEq, key: Val, value: i64) -> Result<Option<Map>, MapFault<Val>> {
+    let empty: Map = Dict::new(eq);
+    match empty.add(alloc, key, number(value))? {
+        Edit::New(map) => Ok(Some(map)),
+        Edit::Same => Ok(None),
     }
-    assert!(rt; matches!(rekey_is_refused(alloc), Ok(true)));
+}
+
+fn adds_what_is_there(alloc: Global, map: &Map) -> bool {
+    matches!(map.add(alloc, a(), number(1)), Ok(Edit::Same))
+}
+
+fn adds_what_differs(alloc: Global, map: &Map) -> bool {
+    is_present(map.add(alloc, a(), number(2)), 1)
+}
+
+fn sets_what_differs(alloc: Global, map: &Map) -> bool {
+    is_new_map(
+        alloc,
+        map.set_item(alloc, a(), number(2)),
+        &[(a(), number(2))],
+    )
 }
 
 // "a" has the value 1.
-fn a_value_is_added_or_set(alloc: Global, map: &Map) -> bool {
-    matches!(map.add(alloc, a(), number(1)), Ok(Edit::Same))
-        && is_present(map.add(alloc, a(), number(2)), 1)
-        && is_new_map(
-            alloc,
-            map.set_item(alloc, a(), number(2)),
-            &[(a(), number(2))],
-        )
-        && is_map_of(alloc, map, &[(a(), number(1))])
+#[test]
+fn a_value_is_added_or_set(rt: HostRuntime) -> Result<(), Fail> {
+    let alloc = rt.alloc();
+    let map = one_pair(alloc, ValEq::Ordinal, a(), 1)?;
+    let map = map.ok_or("a map")?;
+    assert!(rt; adds_what_is_there(alloc, &map) && adds_what_differs(alloc, &map));
+    assert!(rt; sets_what_differs(alloc, &map));
+    assert!(rt; is_map_of(alloc, &map, &[(a(), number(1))]));
+    Ok(())
 }
 
 // "KEY" has the value 2, whatever the case.
 fn a_value_that_is_present_brings_no_spelling(alloc: Global, map: &Map) -> bool {
     matches!(map.set_item(alloc, text(b"key"), number(2)), Ok(Edit::Same))
-        && map.get(&text(b"kEY")) == Some(&number(2))
+        && has_a_value(map, &text(b"kEY"), 2)
         && is_map_of(alloc, map, &[(text(b"KEY"), number(2))])
+}
+
+fn set_again(alloc: Global, map: &Map) -> bool {
+    match map.set_item(alloc, text(b"KEY"), number(2)) {
+        Ok(Edit::New(map)) => a_value_that_is_present_brings_no_spelling(alloc, &map),
+        _ => false,
+    }
 }
 
 #[test]
 fn a_key_goes_with_its_value(rt: HostRuntime) -> Result<(), Fail> {
     let alloc = rt.alloc();
-    let ordinal: Map = Dict::new(ValEq::Ordinal);
-    if let Edit::New(map) = ordinal.add(alloc, a(), number(1))? {
-        assert!(rt; a_value_is_added_or_set(alloc, &map));
-    }
-    let spelled: Map = Dict::new(ValEq::NoCase);
-    if let Edit::New(map) = spelled.add(alloc, text(b"Key"), number(1))? {
-        if let Edit::New(map) = map.set_item(alloc, text(b"KEY"), number(2))? {
-            assert!(rt; a_value_that_is_present_brings_no_spelling(alloc, &map));
-        }
-    }
+    let map = one_pair(alloc, ValEq::NoCase, text(b"Key"), 1)?;
+    assert!(rt; set_again(alloc, &map.ok_or("a map")?));
     Ok(())
 }
 
@@ -280,45 +404,69 @@ fn set_of_numbers(alloc: Global, eq: ValEq, values: &[i64]) -> Result<Set, SetFa
     }
 }
 
+// Whether the set has these numbers and no others.
+fn has_numbers(alloc: Global, set: &Set, values: &[i64]) -> Result<bool, Memory> {
+    Ok(is_set_of(alloc, set, numbers(alloc, values)?.as_slice()))
+}
+
+fn without(alloc: Global, set: &Set, value: i64) -> Result<Option<Set>, SetFault> {
+    match set.remove(alloc, &number(value))? {
+        Edit::New(rest) => Ok(Some(rest)),
+        Edit::Same => Ok(None),
+    }
+}
+
+const ALL: &[i64] = &[
+    1, 2, 3, 4, 5, 6, 7, 8, 9, 10, 11, 12, 13, 14, 15, 16, 17, 18, 19, 20,
+];
+
+const LEFT: &[i64] = &[
+    2, 3, 4, 5, 6, 7, 8, 9, 11, 12, 13, 14, 15, 16, 17, 18, 19, 20,
+];
+
+fn has_no_ten(alloc: Global, set: &Set) -> bool {
+    matches!(set.remove(alloc, &number(10)), Ok(Edit::Same)) && !set.contains(&number(10))
+}
+
 #[test]
 fn a_bucket_of_all_elements_loses_some(rt: HostRuntime) -> Result<(), Fail> {
     let alloc = rt.alloc();
-    let all = [
-        1, 2, 3, 4, 5, 6, 7, 8, 9, 10, 11, 12, 13, 14, 15, 16, 17, 18, 19, 20,
-    ];
-    let left = [
-        2, 3, 4, 5, 6, 7, 8, 9, 11, 12, 13, 14, 15, 16, 17, 18, 19, 20,
-    ];
-    let set = set_of_numbers(alloc, ValEq::One, &all)?;
-    if let Edit::New(set) = set.remove(alloc, &number(1))? {
-        if let Edit::New(rest) = set.remove(alloc, &number(10))? {
-            assert!(rt; matches!(rest.remove(alloc, &number(10)), Ok(Edit::Same)));
-            assert!(rt; !rest.contains(&number(10)));
-            assert!(rt; is_set_of(alloc, &rest, numbers(alloc, &left)?.as_slice()));
-        }
-    }
+    let set = without(alloc, &set_of_numbers(alloc, ValEq::One, ALL)?, 1)?;
+    let rest = without(alloc, &set.ok_or("without 1")?, 10)?.ok_or("without 10")?;
+    assert!(rt; has_no_ten(alloc, &rest));
+    assert!(rt; has_numbers(alloc, &rest, LEFT)?);
     Ok(())
+}
+
+fn are_by_hash(alloc: Global, set: &Set, values: &[i64]) -> Result<bool, Memory> {
+    let by_hash = set.elements().to_list(alloc)?;
+    Ok(by_hash.as_slice() == numbers(alloc, values)?.as_slice())
 }
 
 #[test]
 fn elements_stand_by_hash_or_in_ordinal_order(rt: HostRuntime) -> Result<(), Fail> {
     let alloc = rt.alloc();
     let set = set_of_numbers(alloc, ValEq::Ordinal, &[1, -2, 3, -1])?;
-    let by_hash = set.elements().to_list(alloc)?;
-    assert!(rt; by_hash.as_slice() == numbers(alloc, &[-1, -2, 1, 3])?.as_slice());
-    assert!(rt; is_set_of(alloc, &set, numbers(alloc, &[-2, -1, 1, 3])?.as_slice()));
+    assert!(rt; are_by_hash(alloc, &set, &[-1, -2, 1, 3])?);
+    assert!(rt; has_numbers(alloc, &set, &[-2, -1, 1, 3])?);
     Ok(())
 }
 
-// Adds the integers below `count`, and says how often a search for each of them compares at most.
-fn most_calls(alloc: Global, eq: ValEq, count: u32) -> Result<u32, SetFault> {
-    let calls = Cell::new(0);
-    let mut set = ImmHashSet::new(Counting { eq, calls: &calls });
+type Counted<'a> = ImmHashSet<Val, Counting<'a>>;
+
+// Adds the integers below `count`.
+fn counted(alloc: Global, counting: Counting<'_>, count: u32) -> Result<Counted<'_>, SetFault> {
+    let mut set = ImmHashSet::new(counting);
     for number in 0..count {
         if let Edit::New(more) = set.add(alloc, Val::Int(i64::from(number)))? {
             set = more;
         }
     }
+    Ok(set)
+}
+
+// How often a search for one of the integers below `count` compares at most.
+fn most_of(set: &Counted<'_>, calls: &Cell<u32>, count: u32) -> u32 {
     let mut most = 0;
     for number in 0..count {
         calls.set(0);
@@ -326,7 +474,13 @@ fn most_calls(alloc: Global, eq: ValEq, count: u32) -> Result<u32, SetFault> {
             most = most.max(calls.get());
         }
     }
-    Ok(most)
+    most
+}
+
+fn most_calls(alloc: Global, eq: ValEq, count: u32) -> Result<u32, SetFault> {
+    let calls = Cell::new(0);
+    let set = counted(alloc, Counting { eq, calls: &calls }, count)?;
+    Ok(most_of(&set, &calls, count))
 }
 
 #[test]
@@ -337,55 +491,79 @@ fn a_search_compares_in_one_bucket_alone(rt: HostRuntime) -> Result<(), Fail> {
     Ok(())
 }
 
+// The numbers below the limit.
+fn all_numbers(alloc: Global) -> Result<Vec<Val>, Memory> {
+    let mut values = Vec::new(alloc);
+    for number in 0..LIMIT {
+        values.push(Val::Int(i64::from(number)))?;
+    }
+    Ok(values)
+}
+
+fn full_set(alloc: Global) -> Result<Option<Set>, SetFault> {
+    let empty: Set = ImmHashSet::new(ValEq::Ordinal);
+    match empty.union_with(alloc, all_numbers(alloc)?.as_slice())? {
+        Edit::New(set) => Ok(Some(set)),
+        Edit::Same => Ok(None),
+    }
+}
+
+fn is_refused_one_more(alloc: Global, full: &Set) -> bool {
+    let refused = full.add(alloc, Val::Int(-1));
+    matches!(refused, Err(SetFault::TooLarge { count }) if count == LIMIT)
+}
+
 #[test]
 fn a_full_set_is_refused_one_more(rt: HostRuntime) -> Result<(), Fail> {
     let alloc = rt.alloc();
-    let mut values = Vec::new(alloc);
-    for number in 0..LIMIT {
-        values
-            .push(Val::Int(i64::from(number)))
-            .map_err(Memory::from)?;
-    }
-    let empty: Set = ImmHashSet::new(ValEq::Ordinal);
-    if let Edit::New(full) = empty.union_with(alloc, values.as_slice())? {
-        assert_eq!(rt; full.count(), LIMIT);
-        assert!(rt; matches!(full.add(alloc, Val::Int(0)), Ok(Edit::Same)));
-        let refused = full.add(alloc, Val::Int(-1));
-        assert!(rt; matches!(refused, Err(SetFault::TooLarge { count }) if count == LIMIT));
-    }
+    let full = full_set(alloc)?.ok_or("a set")?;
+    assert_eq!(rt; full.count(), LIMIT);
+    assert!(rt; matches!(full.add(alloc, Val::Int(0)), Ok(Edit::Same)));
+    assert!(rt; is_refused_one_more(alloc, &full));
     Ok(())
 }
 
-// Two values of one hash, of which one is removed again.
-fn tree_answers(alloc: Global) -> Result<bool, TreeFault> {
-    let empty: HashTree<Val, ValEq> = HashTree::new(ValEq::One);
-    let tree = empty.set(alloc, Val::Int(2))?;
-    let Edit::New(tree) = tree.add(alloc, Val::Int(1))? else {
-        return Ok(false);
-    };
-    let Edit::New(rest) = tree.remove(alloc, &Val::Int(2))? else {
-        return Ok(false);
-    };
-    Ok(
-        tree.to_list(alloc)?.as_slice() == [Val::Int(1), Val::Int(2)].as_slice()
-            && rest.to_list(alloc)?.as_slice() == [Val::Int(1)].as_slice(),
-    )
+type Tree = HashTree<Val, ValEq>;
+
+fn is_tree_of(alloc: Global, tree: &Tree, values: &[Val]) -> Result<bool, Memory> {
+    Ok(tree.to_list(alloc)?.as_slice() == values)
 }
 
-fn bucket_answers(alloc: Global) -> Result<bool, Memory> {
-    let one = Bucket::one(alloc, 7, Val::Int(2))?;
-    let two = one.put(alloc, Val::Int(1), &ValEq::Ordinal)?;
-    let rest = two.without(alloc, &Val::Int(2), &ValEq::Ordinal)?;
-    Ok(
-        two.hash() == 7
-            && two.items() == [Val::Int(1), Val::Int(2)].as_slice()
-            && rest.items() == [Val::Int(1)].as_slice(),
-    )
+fn two(alloc: Global, tree: &Tree) -> Result<Option<Tree>, TreeFault> {
+    match tree.add(alloc, Val::Int(1))? {
+        Edit::New(tree) => Ok(Some(tree)),
+        Edit::Same => Ok(None),
+    }
+}
+
+fn loses_one(alloc: Global, tree: &Tree) -> Result<bool, TreeFault> {
+    match tree.remove(alloc, &Val::Int(2))? {
+        Edit::New(rest) => Ok(is_tree_of(alloc, &rest, &[Val::Int(1)])?),
+        Edit::Same => Ok(false),
+    }
+}
+
+// Two values of one hash, of which one is removed again.
+#[test]
+fn a_tree_keeps_what_has_one_hash(rt: HostRuntime) -> Result<(), Fail> {
+    let alloc = rt.alloc();
+    let empty: Tree = HashTree::new(ValEq::One);
+    let tree = two(alloc, &empty.set(alloc, Val::Int(2))?)?.ok_or("two")?;
+    assert!(rt; is_tree_of(alloc, &tree, &[Val::Int(1), Val::Int(2)])?);
+    assert!(rt; loses_one(alloc, &tree)?);
+    Ok(())
+}
+
+fn without_two(alloc: Global, bucket: &Bucket<Val>) -> Result<Bucket<Val>, Memory> {
+    bucket.without(alloc, &Val::Int(2), &ValEq::Ordinal)
 }
 
 #[test]
-fn buckets_keep_what_has_one_hash(rt: HostRuntime) {
+fn a_bucket_keeps_what_has_one_hash(rt: HostRuntime) -> Result<(), Fail> {
     let alloc = rt.alloc();
-    assert!(rt; matches!(tree_answers(alloc), Ok(true)));
-    assert!(rt; matches!(bucket_answers(alloc), Ok(true)));
+    let one = Bucket::one(alloc, 7, Val::Int(2))?;
+    let two = one.put(alloc, Val::Int(1), &ValEq::Ordinal)?;
+    assert!(rt; two.hash() == 7 && two.items() == [Val::Int(1), Val::Int(2)].as_slice());
+    assert!(rt; without_two(alloc, &two)?.items() == [Val::Int(1)].as_slice());
+    Ok(())
 }

@@ -1,6 +1,6 @@
-use imm_list::*;
 use avl_node::Tree;
 use imm_base::{Edit, LIMIT, Memory, Val, ValOrder, ValTest};
+use imm_list::*;
 use std::alloc::Global;
 use std::test::Fail;
 

@@ -1,5 +1,5 @@
-use immrun_core::*;
 use imm_base::{FreeGate, MemSink, MemSource, Memory};
+use immrun_core::*;
 use plain_model::{Listed, Report};
 use std::alloc::Global;
 use std::sync::Wait;

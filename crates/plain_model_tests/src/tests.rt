@@ -1,6 +1,6 @@
 //! What may want memory is done once with ample memory.
-use plain_model::*;
 use imm_base::{Dup, Memory, Text24, Val};
+use plain_model::*;
 use std::alloc::{AllocError, Global};
 use std::test::*;
 

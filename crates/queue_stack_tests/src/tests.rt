@@ -1,5 +1,5 @@
-use queue_stack::*;
 use imm_base::{Dup, Edit, LIMIT, Memory, Val};
+use queue_stack::*;
 use std::alloc::Global;
 use std::test::Fail;
 

@@ -1,5 +1,5 @@
-use script_line::*;
 use imm_base::Memory;
+use script_line::*;
 use std::alloc::Global;
 use std::test::*;
 

@@ -1,5 +1,5 @@
-use script::*;
 use plain_model::{INPUT_LIMIT, Listed, Version};
+use script::*;
 use std::alloc::{AllocError, Global};
 use std::test::*;
 

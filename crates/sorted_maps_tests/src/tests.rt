@@ -1,5 +1,5 @@
-use sorted_maps::*;
 use imm_base::{Edit, LIMIT, MapFault, Memory, Text24, Val, ValOrder};
+use sorted_maps::*;
 use std::alloc::Global;
 use std::test::Fail;
 

@@ -1,5 +1,5 @@
-use sorted_sets::*;
 use imm_base::{Edit, LIMIT, Memory, SetFault, SetTest, Text24, Val, ValOrder};
+use sorted_sets::*;
 use std::alloc::Global;
 use std::test::Fail;
 

@@ -2,8 +2,8 @@
 ghost use Rattle.std.specs.Prelude.{◌≡◌};
 ghost use Rattle.stack_pool.specs.Calls.{NoneLent};
 
-use stack_pool::{Owner, PLACES, Pool, PoolFault, PoolSeat, SharedPool, TakeFault};
 use imm_base::Memory;
+use stack_pool::{Owner, PLACES, Pool, PoolFault, PoolSeat, SharedPool, TakeFault};
 use std::alloc::Global;
 use std::process::Abort;
 use std::thread::{Threads, join_mut};

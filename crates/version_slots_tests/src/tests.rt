@@ -6,15 +6,15 @@ ghost use Rattle.version_slots.specs.Cells.{AreAll, IsIdle};
 ghost use Rattle.version_slots.specs.Passes.{view_of, seen_by, held_by, pinned_by, IsPassOf};
 ghost use Rattle.version_slots.specs.declared.view.Hold.TheVariants.{Empty};
 
-use version_slots::{
-    Base, Closed, Lost, Pass, Payload, Pinned, PrepareFault, Proposal, VersionCell, WORDS,
-    claimable,
-};
 use imm_base::Memory;
 use std::alloc::Global;
 use std::process::Abort;
 use std::sync::atomic::{AtomicU64, Ordering};
 use std::thread::{Threads, join_mut};
+use version_slots::{
+    Base, Closed, Lost, Pass, Payload, Pinned, PrepareFault, Proposal, VersionCell, WORDS,
+    claimable,
+};
 
 /// A number, on which the next one may follow.
 #[derive(Drop)]

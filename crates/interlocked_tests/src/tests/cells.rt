@@ -1,13 +1,13 @@
 //! Cells in one thread: each named call, and a payload that cannot be shared.
 use super::rows::are_same;
 use super::{Job, run};
+use imm_array::ImmArray;
+use imm_base::{Dup, Edit, Memory, Val, ValEq};
+use imm_dictionary::Dict;
 use interlocked::{
     ArrayCall, ArrayValue, CellPass, Change, DictCall, ImmCell, Outcome, PeekFault, QueueCall,
     Share, StackCall,
 };
-use imm_array::ImmArray;
-use imm_base::{Dup, Edit, Memory, Val, ValEq};
-use imm_dictionary::Dict;
 use plain_model::{Factory, Probe, Reply, Transform};
 use queue_stack::{ImmQueue, ImmStack};
 use std::alloc::Global;

@@ -1,8 +1,8 @@
 //! Two threads on one cell.
 use super::{Job, run};
-use interlocked::{CellPass, DictCall, ImmCell, Logged, StackCall};
 use imm_base::{Edit, Val, ValEq};
 use imm_dictionary::Dict;
+use interlocked::{CellPass, DictCall, ImmCell, Logged, StackCall};
 use plain_model::Reply;
 use queue_stack::ImmStack;
 use std::alloc::Global;

@@ -1,8 +1,8 @@
 //! Calls on values, each with its outcome.
-use interlocked::{ArrayCall, ArrayValue, Change, DictCall, Outcome, QueueCall, Share, StackCall};
 use imm_array::ImmArray;
 use imm_base::{Edit, Memory, Val, ValEq};
 use imm_dictionary::Dict;
+use interlocked::{ArrayCall, ArrayValue, Change, DictCall, Outcome, QueueCall, Share, StackCall};
 use plain_model::{Factory, Listed, Probe, Refusal, Reply, Shown, Transform};
 use queue_stack::{ImmQueue, ImmStack};
 use std::alloc::Global;
@@ -54,28 +54,54 @@ fn stays<S: Share, X: Change<S>>(alloc: Global, value: &S, call: &X, wanted: &Re
     matches!(edit, Edit::Same) && are_same(&reply, wanted)
 }
 
+type Stack = ImmStack<Val>;
+
+fn pushes(alloc: Global, stack: &mut Stack, value: Val) -> bool {
+    let call = StackCall::Push { value };
+    installs(alloc, stack, &call, &Reply::Flag(true))
+}
+
+fn pops_one(alloc: Global, stack: &mut Stack, value: Val) -> bool {
+    installs(alloc, stack, &StackCall::TryPop, &Reply::Taken(value))
+}
+
+fn pops_none(alloc: Global, stack: &Stack) -> bool {
+    stays(alloc, stack, &StackCall::TryPop, &Reply::Missing)
+}
+
 // The last one pushed comes first.
-fn pops(alloc: Global, stack: &mut ImmStack<Val>) -> bool {
-    let put = Reply::Flag(true);
-    let take = StackCall::TryPop;
-    installs(alloc, stack, &StackCall::Push { value: A }, &put)
-        && installs(alloc, stack, &StackCall::Push { value: B }, &put)
-        && installs(alloc, stack, &take, &Reply::Taken(B))
-        && installs(alloc, stack, &take, &Reply::Taken(A))
-        && stays(alloc, stack, &take, &Reply::Missing)
+fn pops(alloc: Global, stack: &mut Stack) -> bool {
+    pushes(alloc, stack, A)
+        && pushes(alloc, stack, B)
+        && pops_one(alloc, stack, B)
+        && pops_one(alloc, stack, A)
+        && pops_none(alloc, stack)
+}
+
+type Queue = ImmQueue<Val>;
+
+fn enqueues(alloc: Global, queue: &mut Queue, value: Val) -> bool {
+    let call = QueueCall::Enqueue { value };
+    installs(alloc, queue, &call, &Reply::Flag(true))
+}
+
+fn dequeues_one(alloc: Global, queue: &mut Queue, value: Val) -> bool {
+    installs(alloc, queue, &QueueCall::TryDequeue, &Reply::Taken(value))
+}
+
+fn dequeues_none(alloc: Global, queue: &Queue) -> bool {
+    stays(alloc, queue, &QueueCall::TryDequeue, &Reply::Missing)
 }
 
 // The first one put in comes first.
-fn dequeues(alloc: Global, queue: &mut ImmQueue<Val>) -> bool {
-    let put = Reply::Flag(true);
-    let take = QueueCall::TryDequeue;
-    installs(alloc, queue, &QueueCall::Enqueue { value: A }, &put)
-        && installs(alloc, queue, &QueueCall::Enqueue { value: B }, &put)
-        && installs(alloc, queue, &QueueCall::Enqueue { value: C }, &put)
-        && installs(alloc, queue, &take, &Reply::Taken(A))
-        && installs(alloc, queue, &take, &Reply::Taken(B))
-        && installs(alloc, queue, &take, &Reply::Taken(C))
-        && stays(alloc, queue, &take, &Reply::Missing)
+fn dequeues(alloc: Global, queue: &mut Queue) -> bool {
+    enqueues(alloc, queue, A)
+        && enqueues(alloc, queue, B)
+        && enqueues(alloc, queue, C)
+        && dequeues_one(alloc, queue, A)
+        && dequeues_one(alloc, queue, B)
+        && dequeues_one(alloc, queue, C)
+        && dequeues_none(alloc, queue)
 }
 
 #[test]
@@ -84,17 +110,34 @@ fn calls_on_a_stack_and_a_queue(rt: HostRuntime) {
     assert!(rt; dequeues(rt.alloc(), &mut ImmQueue::new()));
 }
 
+type Map = Dict<Val, Val, ValEq>;
+
+fn is_put(alloc: Global, map: &mut Map, call: &DictCall, wanted: &Reply) -> bool {
+    installs(alloc, map, call, wanted)
+}
+
+fn is_kept(alloc: Global, map: &Map, call: &DictCall, wanted: &Reply) -> bool {
+    stays(alloc, map, call, wanted)
+}
+
+fn tries_to_add(alloc: Global, map: &mut Map) -> bool {
+    let call = DictCall::TryAdd { key: A, value: A };
+    is_put(alloc, map, &call, &Reply::Flag(true)) && is_kept(alloc, map, &call, &Reply::Flag(false))
+}
+
+fn gets_or_adds(alloc: Global, map: &mut Map) -> bool {
+    let call = DictCall::GetOrAdd { key: B, value: B };
+    is_put(alloc, map, &call, &Reply::Value(B)) && is_kept(alloc, map, &call, &Reply::Value(B))
+}
+
+fn tries_to_remove(alloc: Global, map: &mut Map) -> bool {
+    let call = DictCall::TryRemove { key: B };
+    is_put(alloc, map, &call, &Reply::Taken(B)) && is_kept(alloc, map, &call, &Reply::Missing)
+}
+
 // The empty dictionary gets the pairs A=A and B=B, and loses one.
-fn adds_and_removes(alloc: Global, map: &mut Dict<Val, Val, ValEq>) -> bool {
-    let add = DictCall::TryAdd { key: A, value: A };
-    let get = DictCall::GetOrAdd { key: B, value: B };
-    let remove = DictCall::TryRemove { key: B };
-    installs(alloc, map, &add, &Reply::Flag(true))
-        && stays(alloc, map, &add, &Reply::Flag(false))
-        && installs(alloc, map, &get, &Reply::Value(B))
-        && stays(alloc, map, &get, &Reply::Value(B))
-        && installs(alloc, map, &remove, &Reply::Taken(B))
-        && stays(alloc, map, &remove, &Reply::Missing)
+fn adds_and_removes(alloc: Global, map: &mut Map) -> bool {
+    tries_to_add(alloc, map) && gets_or_adds(alloc, map) && tries_to_remove(alloc, map)
 }
 
 fn from_one(key: Val, value: Val) -> DictCall {
@@ -105,53 +148,67 @@ fn from_one(key: Val, value: Val) -> DictCall {
     }
 }
 
+fn updates_one(alloc: Global, map: &mut Map, value: Val) -> bool {
+    is_put(alloc, map, &from_one(A, value), &Reply::Flag(true))
+}
+
+fn updates_none(alloc: Global, map: &Map, key: Val, value: Val) -> bool {
+    is_kept(alloc, map, &from_one(key, value), &Reply::Flag(false))
+}
+
 // The dictionary A=A gets the same value again, which is another version, becomes A=B, and has no A then.
-fn updates(alloc: Global, map: &mut Dict<Val, Val, ValEq>) -> bool {
-    installs(alloc, map, &from_one(A, A), &Reply::Flag(true))
-        && stays(alloc, map, &from_one(B, A), &Reply::Flag(false))
-        && installs(alloc, map, &from_one(A, B), &Reply::Flag(true))
-        && stays(alloc, map, &from_one(A, B), &Reply::Flag(false))
+fn updates(alloc: Global, map: &mut Map) -> bool {
+    updates_one(alloc, map, A)
+        && updates_none(alloc, map, B, A)
+        && updates_one(alloc, map, B)
+        && updates_none(alloc, map, A, B)
 }
 
-fn made(key: Val, make: Factory, probe: Probe) -> DictCall {
-    DictCall::GetOrAddMade { key, make, probe }
+// The factory's value is answered for a key that is absent.
+fn makes_one(alloc: Global, map: &mut Map) -> bool {
+    let probe = Probe::Ran { position: 0 };
+    let call = DictCall::GetOrAddMade {
+        key: B,
+        make: Factory::Key,
+        probe,
+    };
+    is_put(alloc, map, &call, &Reply::Value(B))
 }
 
-// The dictionary A=B gets B=B by a factory, and then C=A, which becomes C=B.
-fn makes(alloc: Global, map: &mut Dict<Val, Val, ValEq>) -> bool {
-    let ran = Probe::Ran { position: 0 };
-    let idle = Probe::Idle;
-    let update = DictCall::AddOrUpdateMade {
+// B is answered for a key that is present, whether or not the factory ran.
+fn makes_none(alloc: Global, map: &Map, key: Val, make: Factory, probe: Probe) -> bool {
+    let call = DictCall::GetOrAddMade { key, make, probe };
+    is_kept(alloc, map, &call, &Reply::Value(B))
+}
+
+fn updates_made(alloc: Global, map: &mut Map, wanted: Val) -> bool {
+    let call = DictCall::AddOrUpdateMade {
         key: C,
         make: Factory::Const(A),
         transform: Transform::Plus(1),
     };
-    stays(alloc, map, &made(A, Factory::Key, idle), &Reply::Value(B))
-        && installs(alloc, map, &made(B, Factory::Key, ran), &Reply::Value(B))
-        && stays(
-            alloc,
-            map,
-            &made(B, Factory::Const(C), idle),
-            &Reply::Value(B),
-        )
-        && stays(
-            alloc,
-            map,
-            &made(B, Factory::Const(C), ran),
-            &Reply::Value(B),
-        )
-        && installs(alloc, map, &update, &Reply::Value(A))
-        && installs(alloc, map, &update, &Reply::Value(B))
+    is_put(alloc, map, &call, &Reply::Value(wanted))
+}
+
+// The dictionary A=B gets B=B by a factory, and then C=A, which becomes C=B.
+fn makes(alloc: Global, map: &mut Map) -> bool {
+    makes_none(alloc, map, A, Factory::Key, Probe::Idle)
+        && makes_one(alloc, map)
+        && makes_none(alloc, map, B, Factory::Const(C), Probe::Idle)
+        && makes_none(alloc, map, B, Factory::Const(C), Probe::Ran { position: 0 })
+        && updates_made(alloc, map, A)
+        && updates_made(alloc, map, B)
 }
 
 // A sum at the end of the numbers stays.
-fn stops(alloc: Global, map: &mut Dict<Val, Val, ValEq>) -> bool {
-    let add = DictCall::AddOrUpdate {
+fn stops(alloc: Global, map: &mut Map) -> bool {
+    let call = DictCall::AddOrUpdate {
         key: Val::Int(4),
         value: MOST,
         transform: Transform::Plus(1),
     };
-    installs(alloc, map, &add, &Reply::Value(MOST)) && stays(alloc, map, &add, &Reply::Value(MOST))
+    is_put(alloc, map, &call, &Reply::Value(MOST))
+        && is_kept(alloc, map, &call, &Reply::Value(MOST))
 }
 
 #[test]
@@ -179,51 +236,78 @@ fn array_of(alloc: Global, numbers: &[Val]) -> Result<ImmArray<Val>, Memory> {
     }
 }
 
+fn is_set(alloc: Global, value: &mut ArrayValue, call: &ArrayCall, wanted: &Reply) -> bool {
+    installs(alloc, value, call, wanted)
+}
+
+fn is_left(alloc: Global, value: &ArrayValue, call: &ArrayCall, wanted: &Reply) -> bool {
+    stays(alloc, value, call, wanted)
+}
+
 // No array becomes B C, and an array stays.
 fn initializes(alloc: Global, value: &mut ArrayValue) -> Result<bool, Memory> {
     let array = array_of(alloc, &[B, C])?;
     let call = ArrayCall::Initialize { array };
-    let is_set = installs(alloc, value, &call, &Reply::Flag(true));
-    Ok(is_set && stays(alloc, value, &call, &Reply::Flag(false)))
+    Ok(
+        is_set(alloc, value, &call, &Reply::Flag(true))
+            && is_left(alloc, value, &call, &Reply::Flag(false)),
+    )
+}
+
+// An array of this one number.
+fn exchange(alloc: Global, number: Val) -> Result<ArrayCall, Memory> {
+    let array = array_of(alloc, &[number])?;
+    Ok(ArrayCall::Exchange { array })
 }
 
 // B C becomes A.
 fn exchanges(alloc: Global, value: &mut ArrayValue) -> Result<bool, Memory> {
-    let had = shown(alloc, 2, &[B, C])?;
-    let array = array_of(alloc, &[A])?;
-    Ok(installs(alloc, value, &ArrayCall::Exchange { array }, &had))
+    let call = exchange(alloc, A)?;
+    Ok(is_set(alloc, value, &call, &shown(alloc, 2, &[B, C])?))
+}
+
+fn only_a(alloc: Global) -> Result<ArrayValue, Memory> {
+    Ok(ArrayValue::Array(array_of(alloc, &[A])?))
 }
 
 fn for_one(alloc: Global, numbers: &[Val]) -> Result<ArrayCall, Memory> {
     let array = array_of(alloc, numbers)?;
-    let comparand = ArrayValue::Array(array_of(alloc, &[A])?);
+    let comparand = only_a(alloc)?;
     Ok(ArrayCall::CompareExchange { array, comparand })
+}
+
+fn for_none(alloc: Global) -> Result<ArrayCall, Memory> {
+    let array = array_of(alloc, &[A])?;
+    let comparand = ArrayValue::Default;
+    Ok(ArrayCall::CompareExchange { array, comparand })
+}
+
+fn changes_from_a(alloc: Global, value: &mut ArrayValue, call: &ArrayCall) -> Result<bool, Memory> {
+    Ok(is_set(alloc, value, call, &shown(alloc, 1, &[A])?))
+}
+
+fn stays_b_c(alloc: Global, value: &ArrayValue, call: &ArrayCall) -> Result<bool, Memory> {
+    Ok(is_left(alloc, value, call, &shown(alloc, 2, &[B, C])?))
 }
 
 // A becomes B C, which is not A.
 fn compares(alloc: Global, value: &mut ArrayValue) -> Result<bool, Memory> {
     let call = for_one(alloc, &[B, C])?;
-    let had = shown(alloc, 1, &[A])?;
-    let has = shown(alloc, 2, &[B, C])?;
-    let is_changed = installs(alloc, value, &call, &had);
-    Ok(is_changed && stays(alloc, value, &call, &has))
+    Ok(changes_from_a(alloc, value, &call)? && stays_b_c(alloc, value, &call)?)
+}
+
+fn no_array_differs(alloc: Global) -> Result<bool, Memory> {
+    let call = for_one(alloc, &[B])?;
+    Ok(is_left(alloc, &ArrayValue::Default, &call, &Reply::Unset))
+}
+
+fn an_array_differs(alloc: Global, value: &ArrayValue) -> Result<bool, Memory> {
+    stays_b_c(alloc, value, &for_none(alloc)?)
 }
 
 // No array is not A, and B C is not no array.
 fn differs(alloc: Global, value: &ArrayValue) -> Result<bool, Memory> {
-    let call = for_one(alloc, &[B])?;
-    let array = array_of(alloc, &[A])?;
-    let comparand = ArrayValue::Default;
-    let has = shown(alloc, 2, &[B, C])?;
-    Ok(
-        stays(alloc, &ArrayValue::Default, &call, &Reply::Unset)
-            && stays(
-                alloc,
-                value,
-                &ArrayCall::CompareExchange { array, comparand },
-                &has,
-            ),
-    )
+    Ok(no_array_differs(alloc)? && an_array_differs(alloc, value)?)
 }
 
 #[test]
