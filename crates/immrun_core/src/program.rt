@@ -18,12 +18,7 @@ use std::sync::Wait;
 use std::thread::Threads;
 
 // Reads a script, and writes what the task gives of it.
-fn perform<Q: Source, S: Sink>(
-    alloc: Global,
-    task: Task,
-    source: &mut Q,
-    sink: &mut S,
-) -> Status
+fn perform<Q: Source, S: Sink>(alloc: Global, task: Task, source: &mut Q, sink: &mut S) -> Status
     ensures { Ended task (source_ends Q.left Q.faults source.old source.new)
         (sink_ends S.taken S.faults sink.old sink.new) result }
 {
