@@ -109,7 +109,8 @@ fn a_walk_is_the_seats_that_started_it(rt: HostRuntime) -> Result<(), Memory> {
     assert!(rt; none == Err(WalkFault::NoCurrent));
     assert!(rt; dispose(&pool, &mut first, walk) == Ok(()));
     let other = started(&rt, &pool, &mut second, one_and_two(&rt, rt.alloc()));
-    assert!(rt; other.owner.number == 17 && other.owner.place == 0);
+    let others = next(&pool, &mut first, other);
+    assert!(rt; others == Err(WalkFault::Busy { number: 17 }));
     assert!(rt; next(&pool, &mut first, walk) == Err(WalkFault::Disposed));
     close(rt.alloc(), pool, first, second)
 }
