@@ -1,0 +1,36 @@
+-- What one thread does with its pass.
+use Rattle.std.specs.Prelude.{◌≡◌, ◌⊎◌, List, [], ◌∷◌, ◌++◌, map, MatchOption, Option, None}
+use Rattle.plain_model.specs.declared.plain.Plain.{Plain}
+use Rattle.plain_model.specs.declared.commands.PlainCall.{PlainCall}
+use Rattle.version_slots.specs.declared.view.Line.{Line}
+use Rattle.version_slots.specs.declared.view.View.{View}
+use Rattle.interlocked.specs.declared.entry.Kept.{Kept}
+use Rattle.interlocked.specs.Entries.{entry, added}
+use Rattle.interlocked.specs.Known.{Known}
+use Rattle.registry.specs.declared.requests.Request.{Request}
+use Rattle.registry.specs.declared.requests.Request.TheVariants.{Change}
+use Rattle.registry.specs.declared.requests.Response.{Response}
+use Rattle.registry.specs.declared.requests.Seat.{Seat}
+use Rattle.registry.specs.Requests.{IsMade}
+
+-- a pass at its seat, where nothing is answered yet
+abbrev pub seat : {C X : Type 0} → Known → Seat C X
+seat pass = record { pass = pass; response = None }
+
+-- the values of these versions
+abbrev pub values : List (Line Kept) → List Plain
+values lines = map (λ (l : Line Kept). l.value.value) lines
+
+module _ {C X : Type 0} (plain : C → Plain) (meaning : X → PlainCall) where
+  -- the pass installed nothing further, or once, by this request
+  abbrev pub AddsAtMost : Request X → View Kept → View Kept → Type 0
+  AddsAtMost request old new =
+      (added new.mine ≡ added old.mine)
+      ⊎ ((change : X) × (request ≡ Change change) × (added new.mine ≡ added old.mine ++ entry old.number 1 (meaning change) ∷ []))
+
+  -- A request was made by this pass, or there was no memory. What it was answered stands in what the pass has seen
+  pub record Makes (request : Request X) (p q : Known) (response : Option (Response C)) : Type 0 where
+    pub table : q.table ≡ p.table
+    pub number : q.view.number ≡ p.view.number
+    pub adds : AddsAtMost request p.view q.view
+    pub made : MatchOption response (Unit {0}) (λ r. IsMade plain meaning (values q.view.seen) request r)

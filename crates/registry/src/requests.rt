@@ -1,0 +1,182 @@
+//! Requests to one cell, each made by a thread of its own.
+ghost use Rattle.std.specs.Prelude.{◌≡◌, ℕ, ◌<◌, ◌≤◌, [], All, IfOk, Some, None, length, map, result_ok, slice_index_or, vec_capacity};
+ghost use Rattle.registry.specs.Requests.{AreMade, Has};
+ghost use Rattle.registry.specs.Seats.{Makes, seat};
+
+use imm_base::Memory;
+use interlocked::{CellPass, Change, ImmCell, Kept, Logged, Share};
+use plain_model::Reply;
+use std::alloc::Global;
+use std::sync::Wait;
+use std::thread::{Threads, for_each_mut};
+use version_slots::Payload;
+
+/// The most requests that are made at once: a cell has at most eight passes.
+pub const MOST: usize = 8;
+
+/// What is asked of a cell.
+#[derive(Drop)]
+pub enum Request<X> {
+    /// A change of its collection.
+    Change(X),
+    /// The collection that it has.
+    Read,
+}
+
+/// What a request is answered.
+#[derive(Drop)]
+pub enum Response<C> {
+    /// The reply to a change.
+    Reply(Reply),
+    /// The collection.
+    Value(C),
+}
+
+/// What one thread works on: a pass of the cell, and the response once there is one.
+struct Seat<C: Share, X: Change<C>>
+where
+    Logged<C, X>: Payload<Plain = Kept>,
+{
+    pass: CellPass<C, X>,
+    response: Option<Response<C>>,
+}
+
+/// Makes one request.
+fn respond<R: Wait, C: Share, X: Change<C>>(
+    rt: &R,
+    alloc: Global,
+    cell: &ImmCell<C, X>,
+    pass: &mut CellPass<C, X>,
+    request: &Request<X>,
+) -> Result<Response<C>, Memory>
+    requires own { pass.old.table ≡ cell.now.table }
+    requires new { pass.old.last ≡ 0 }
+    requires suits { (call : _) (kind : _) → X.suits call kind }
+    ensures { Makes C.plain X.meaning request.now pass.old pass.new (result_ok result) }
+{
+    match request {
+        Request::Change(change) => {
+            let (reply, _) = cell.call(rt, alloc, pass, 1, change)?;
+            Ok(Response::Reply(reply))
+        }
+        Request::Read => {
+            let (value, _) = cell.read(rt, pass)?;
+            Ok(Response::Value(value))
+        }
+    }
+}
+
+/// Makes all requests at once, each at the seat of its number.
+fn respond_all<R: Threads + Wait + Sync, C: Share + Send + Sync, X: Change<C> + Send + Sync>(
+    rt: &R,
+    alloc: Global,
+    cell: &ImmCell<C, X>,
+    seats: &mut [Seat<C, X>],
+    requests: &[Request<X>],
+)
+    requires new { All (λ s. (s.pass.table ≡ cell.now.table) × (s.pass.last ≡ 0)) seats.old }
+    requires same { length seats.old ≡ length requests.now }
+    requires suits { (call : _) (kind : _) → X.suits call kind }
+    ensures { (k : ℕ) (d : _) (request : _) → Has requests.now k request
+        → Makes C.plain X.meaning request (slice_index_or seats.old k d).pass (slice_index_or seats.new k d).pass (slice_index_or seats.new k d).response }
+{
+    for_each_mut(
+        rt,
+        seats,
+        MOST,
+        &|index, seat: &mut Seat<C, X>|
+            requires { (index < length requests.now) × (seat.now.pass.table ≡ cell.now.table) × (seat.now.pass.last ≡ 0) × ((call : _) (kind : _) → X.suits call kind) }
+            ensures { (request : _) → Has requests.entry.now index request → Makes C.plain X.meaning request seat.entry.now.pass seat.exit.now.pass seat.exit.now.response }
+        { seat.response = respond(rt, alloc, cell, &mut seat.pass, &requests[index]).ok() },
+    );
+}
+
+/// The passes at their seats.
+fn seated<C: Share, X: Change<C>>(
+    passes: &mut Vec<CellPass<C, X>>,
+    mut seats: Vec<Seat<C, X>>,
+) -> Vec<Seat<C, X>>
+    requires room { (seats.items ≡ []) × (length passes.old.items ≤ vec_capacity seats) }
+    ensures seats { result.items ≡ map (λ p. seat p) passes.old.items }
+    ensures passes { (passes.new.items ≡ []) × (vec_capacity passes.new ≡ vec_capacity passes.old) }
+{
+    while let Some(pass) = passes.pop() {
+        seats.push_reserved(Seat {
+            pass,
+            response: None,
+        });
+    }
+    seats.reverse();
+    seats
+}
+
+/// The passes from their seats, and the responses.
+fn unseated<C: Share, X: Change<C>>(
+    mut seats: Vec<Seat<C, X>>,
+    passes: &mut Vec<CellPass<C, X>>,
+    mut responses: Vec<Option<Response<C>>>,
+) -> Vec<Option<Response<C>>>
+    requires passes { (passes.old.items ≡ []) × (length seats.items ≤ vec_capacity passes.old) }
+    requires responses { (responses.items ≡ []) × (length seats.items ≤ vec_capacity responses) }
+    ensures passes { passes.new.items ≡ map (λ s. s.pass) seats.items }
+    ensures responses { result.items ≡ map (λ s. s.response) seats.items }
+{
+    while let Some(seat) = seats.pop() {
+        let Seat { pass, response } = seat;
+        passes.push_reserved(pass);
+        responses.push_reserved(response);
+    }
+    seats.destroy_empty();
+    passes.reverse();
+    responses.reverse();
+    responses
+}
+
+/// The responses, if there is one to each request.
+fn whole<C: Drop>(alloc: Global, responses: Vec<Option<Response<C>>>) -> Result<Vec<Response<C>>, Memory>
+    ensures { IfOk result (λ all. map (λ r. Some r) all.items ≡ responses.items) }
+{
+    let mut all = Vec::new(alloc);
+    for response in responses {
+        let Some(response) = response else {
+            return Err(Memory);
+        };
+        all.push(response)?;
+    }
+    Ok(all)
+}
+
+/// Makes requests to a cell with this collection, all at once, each in a thread with a pass of its
+/// own. Answers the collection that the cell ends with, and the response to each request.
+pub fn make_all<
+    R: Threads + Wait + Sync,
+    C: Share + Send + Sync,
+    X: Change<C> + Send + Sync,
+>(
+    rt: &R,
+    alloc: Global,
+    first: C,
+    requests: &[Request<X>],
+) -> Result<(C, Vec<Response<C>>), Memory>
+    requires some { (0 < length requests.now) × (length requests.now ≤ 8) }
+    requires suits { (call : _) (kind : _) → X.suits call kind }
+    ensures { IfOk result (λ t. AreMade C.plain X.meaning (C.plain first) (C.plain t.0) requests.now t.1.items) }
+{
+    let count = requests.len();
+    let responses = Vec::with_capacity(alloc, count)?;
+    let seats = Vec::with_capacity(alloc, count)?;
+    let (cell, mut passes) = match ImmCell::make(alloc, count as u32, first) {
+        Ok(made) => made,
+        Err(memory) => {
+            seats.destroy_empty();
+            return Err(memory);
+        }
+    };
+    let mut seats = seated(&mut passes, seats);
+    respond_all(rt, alloc, &cell, seats.as_mut_slice(), requests);
+    let responses = unseated(seats, &mut passes, responses);
+    let closed = cell.close(alloc, passes)?;
+    let last = closed.payload.value().share()?;
+    let responses = whole(alloc, responses)?;
+    Ok((last, responses))
+}
