@@ -106,7 +106,10 @@ abbrev pub answer_to : Command → Response (Mapped Val Val ValEq) → Answer
 answer_to command (responses.Reply reply) = told reply
 answer_to command (responses.Value map) = looked_up command map
 
--- each of these answers is that to the response of its number
-pub record AreAnswers (asked : List Command) (came : List (Response (Mapped Val Val ValEq))) (given : List Answer) : Type 0 where
-  pub count : length given ≡ length came
-  pub each : (k : ℕ) (command : Command) (response : Response (Mapped Val Val ValEq)) (one : Answer) → Has asked k command → Has came k response → Has given k one → one ≡ answer_to command response
+-- what a command was answered, where this came of its request
+abbrev pub IsAnswerTo : Command → Option (Response (Mapped Val Val ValEq)) → Answer → Type 0
+IsAnswerTo command came one = (response : Response (Mapped Val Val ValEq)) × (came ≡ Some response) × (one ≡ answer_to command response)
+
+-- each of these answers is that to what came of the request of its number
+pub record AreAnswers (asked : List Command) (came : List (Option (Response (Mapped Val Val ValEq)))) (given : List Answer) : Type 0 where
+  pub each : (k : ℕ) (command : Command) (some : Option (Response (Mapped Val Val ValEq))) (one : Answer) → Has asked k command → Has came k some → Has given k one → IsAnswerTo command some one

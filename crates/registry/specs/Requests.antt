@@ -1,5 +1,5 @@
 -- What requests to one cell are answered, where threads make them at once.
-use Rattle.std.specs.Prelude.{◌≡◌, ◌⊎◌, ℕ, ◌+◌, ◌≤◌, suc, List, [], ◌∷◌, ◌++◌, length, MatchOption, Option}
+use Rattle.std.specs.Prelude.{◌≡◌, ◌⊎◌, ℕ, ◌+◌, ◌≤◌, suc, List, [], ◌∷◌, ◌++◌, length, Option, Some}
 use mathlib.Core.Option.{some}
 use lib.ListN.{get_elem?}
 use Rattle.plain_model.specs.declared.plain.Plain.{Plain}
@@ -42,12 +42,12 @@ module _ {C X : Type 0} (plain : C → Plain) (meaning : X → PlainCall) where
     pub soon : (place ≤ later) × (later ≤ place + 1)
     pub makes : Has history later (next request value)
 
-  -- Threads made these requests at once, each of them one, and there is one history of the cell's values: it goes from the first one to the last one, each request was made at a place of it, and each step is what one of the requests makes
-  pub record AreMade (first last : Plain) (requests : List (Request X)) (answers : List (Response C)) : Type 0 where
+  -- Threads made these requests at once, each of them one, and these came of them, where there was memory. There is one history of the cell's values: it goes from the first one to the last one, each request was made at a place of it, and each step is what one of the requests makes
+  pub record AreMade (first last : Plain) (requests : List (Request X)) (answers : List (Option (Response C))) : Type 0 where
     pub history : List Plain
     pub opens : Has history 0 first
     pub ends : (before : List Plain) × (history ≡ before ++ last ∷ [])
     pub count : length answers ≡ length requests
-    pub each : (k : ℕ) (request : Request X) (response : Response C) → Has requests k request → Has answers k response → IsMade history request response
+    pub each : (k : ℕ) (request : Request X) (response : Response C) → Has requests k request → Has answers k (Some response) → IsMade history request response
     pub steps : (i : ℕ) (value value' : Plain) → Has history i value → Has history (suc i) value' → (k : ℕ) × (request : Request X) × Has requests k request × (value' ≡ next request value)
     pub kinds : (i : ℕ) (value : Plain) → Has history i value → value.kind ≡ first.kind

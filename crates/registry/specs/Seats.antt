@@ -1,5 +1,5 @@
 -- What one thread does with its pass.
-use Rattle.std.specs.Prelude.{◌≡◌, ◌⊎◌, List, [], ◌∷◌, ◌++◌, map, MatchOption, Option, None}
+use Rattle.std.specs.Prelude.{◌≡◌, ◌⊎◌, ℕ, List, [], ◌∷◌, ◌++◌, map, MatchOption, Option, None}
 use Rattle.plain_model.specs.declared.plain.Plain.{Plain}
 use Rattle.plain_model.specs.declared.commands.PlainCall.{PlainCall}
 use Rattle.version_slots.specs.declared.view.Line.{Line}
@@ -11,7 +11,7 @@ use Rattle.registry.specs.declared.requests.Request.{Request}
 use Rattle.registry.specs.declared.requests.Request.TheVariants.{Change}
 use Rattle.registry.specs.declared.requests.Response.{Response}
 use Rattle.registry.specs.declared.requests.Seat.{Seat}
-use Rattle.registry.specs.Requests.{IsMade}
+use Rattle.registry.specs.Requests.{Has, IsMade}
 
 -- a pass at its seat, where nothing is answered yet
 abbrev pub seat : {C X : Type 0} → Known → Seat C X
@@ -34,3 +34,7 @@ module _ {C X : Type 0} (plain : C → Plain) (meaning : X → PlainCall) where
     pub number : q.view.number ≡ p.view.number
     pub adds : AddsAtMost request p.view q.view
     pub made : MatchOption response (Unit {0}) (λ r. IsMade plain meaning (values q.view.seen) request r)
+
+  -- the request of this number was made at this seat
+  pub record MadeAt (requests : List (Request X)) (index : ℕ) (old new : Seat C X) : Type 0 where
+    pub made : (request : Request X) → Has requests index request → Makes request old.pass new.pass new.response

@@ -1,7 +1,8 @@
 //! Requests to one cell, each made by a thread of its own.
-ghost use Rattle.std.specs.Prelude.{◌≡◌, ℕ, ◌<◌, ◌≤◌, [], All, IfOk, Some, None, length, map, result_ok, slice_index_or, vec_capacity};
-ghost use Rattle.registry.specs.Requests.{AreMade, Has};
-ghost use Rattle.registry.specs.Seats.{Makes, seat};
+ghost use Rattle.std.specs.Prelude.{◌≡◌, ℕ, ◌<◌, ◌≤◌, [], All, IfOk, length, map, slice_index_or, vec_capacity};
+ghost use Rattle.std.specs.Result.{result_ok};
+ghost use Rattle.registry.specs.Requests.{AreMade};
+ghost use Rattle.registry.specs.Seats.{MadeAt, Makes, seat};
 
 use imm_base::Memory;
 use interlocked::{CellPass, Change, ImmCell, Kept, Logged, Share};
@@ -42,6 +43,7 @@ where
 }
 
 /// Makes one request.
+#[tactic(auto, using(crate::proofs::Made::makes_change, crate::proofs::Made::makes_read, crate::proofs::Made::makes_none))]
 fn respond<R: Wait, C: Share, X: Change<C>>(
     rt: &R,
     alloc: Global,
@@ -66,6 +68,25 @@ fn respond<R: Wait, C: Share, X: Change<C>>(
     }
 }
 
+/// Makes the request of this number.
+#[tactic(auto, using(crate::proofs::Made::made_at))]
+fn respond_at<R: Wait, C: Share, X: Change<C>>(
+    rt: &R,
+    alloc: Global,
+    cell: &ImmCell<C, X>,
+    seat: &mut Seat<C, X>,
+    requests: &[Request<X>],
+    index: usize,
+)
+    requires own { seat.old.pass.table ≡ cell.now.table }
+    requires new { seat.old.pass.last ≡ 0 }
+    requires within { index < length requests.now }
+    requires suits { (call : _) (kind : _) → X.suits call kind }
+    ensures { MadeAt C.plain X.meaning requests.now index seat.old seat.new }
+{
+    seat.response = respond(rt, alloc, cell, &mut seat.pass, &requests[index]).ok();
+}
+
 /// Makes all requests at once, each at the seat of its number.
 fn respond_all<R: Threads + Wait + Sync, C: Share + Send + Sync, X: Change<C> + Send + Sync>(
     rt: &R,
@@ -74,24 +95,44 @@ fn respond_all<R: Threads + Wait + Sync, C: Share + Send + Sync, X: Change<C> + 
     seats: &mut [Seat<C, X>],
     requests: &[Request<X>],
 )
-    requires new { All (λ s. (s.pass.table ≡ cell.now.table) × (s.pass.last ≡ 0)) seats.old }
+    requires new { All (λ s. (s.pass.table ≡ cell.now.table) × (s.pass.last ≡ 0)) seats.old
+        × ((call : _) (kind : _) → X.suits call kind) }
     requires same { length seats.old ≡ length requests.now }
-    requires suits { (call : _) (kind : _) → X.suits call kind }
-    ensures { (k : ℕ) (d : _) (request : _) → Has requests.now k request
-        → Makes C.plain X.meaning request (slice_index_or seats.old k d).pass (slice_index_or seats.new k d).pass (slice_index_or seats.new k d).response }
+    ensures { (k : ℕ) (d : _) → k < length seats.old
+        → MadeAt C.plain X.meaning requests.now k (slice_index_or seats.old k d) (slice_index_or seats.new k d) }
 {
     for_each_mut(
         rt,
         seats,
         MOST,
         &|index, seat: &mut Seat<C, X>|
-            requires { (index < length requests.now) × (seat.now.pass.table ≡ cell.now.table) × (seat.now.pass.last ≡ 0) × ((call : _) (kind : _) → X.suits call kind) }
-            ensures { (request : _) → Has requests.entry.now index request → Makes C.plain X.meaning request seat.entry.now.pass seat.exit.now.pass seat.exit.now.response }
-        { seat.response = respond(rt, alloc, cell, &mut seat.pass, &requests[index]).ok() },
+            requires { (seat.now.pass.table ≡ cell.now.table) × (seat.now.pass.last ≡ 0) × (index < length requests.now) × ((call : _) (kind : _) → X.suits call kind) }
+            ensures { MadeAt C.plain X.meaning requests.entry.now index seat.entry.now seat.exit.now }
+        { respond_at(rt, alloc, cell, seat, requests, index) },
     );
 }
 
+/// The seats after all requests were made.
+fn responded<R: Threads + Wait + Sync, C: Share + Send + Sync, X: Change<C> + Send + Sync>(
+    rt: &R,
+    alloc: Global,
+    cell: &ImmCell<C, X>,
+    mut seats: Vec<Seat<C, X>>,
+    requests: &[Request<X>],
+) -> Vec<Seat<C, X>>
+    requires new { All (λ s. (s.pass.table ≡ cell.now.table) × (s.pass.last ≡ 0)) seats.items
+        × ((call : _) (kind : _) → X.suits call kind) }
+    requires same { length seats.items ≡ length requests.now }
+    ensures same { length result.items ≡ length seats.items }
+    ensures made { (k : ℕ) (d : _) → k < length seats.items
+        → MadeAt C.plain X.meaning requests.now k (slice_index_or seats.items k d) (slice_index_or result.items k d) }
+{
+    respond_all(rt, alloc, cell, seats.as_mut_slice(), requests);
+    seats
+}
+
 /// The passes at their seats.
+#[tactic(auto, using(crate::proofs::Moves::moves_one, crate::proofs::Moves::moved_all, crate::proofs::Moves::moves_none))]
 fn seated<C: Share, X: Change<C>>(
     passes: &mut Vec<CellPass<C, X>>,
     mut seats: Vec<Seat<C, X>>,
@@ -111,6 +152,7 @@ fn seated<C: Share, X: Change<C>>(
 }
 
 /// The passes from their seats, and the responses.
+#[tactic(auto, using(crate::proofs::Moves::moves_one, crate::proofs::Moves::moved_all, crate::proofs::Moves::moves_none))]
 fn unseated<C: Share, X: Change<C>>(
     mut seats: Vec<Seat<C, X>>,
     passes: &mut Vec<CellPass<C, X>>,
@@ -132,22 +174,9 @@ fn unseated<C: Share, X: Change<C>>(
     responses
 }
 
-/// The responses, if there is one to each request.
-fn whole<C: Drop>(alloc: Global, responses: Vec<Option<Response<C>>>) -> Result<Vec<Response<C>>, Memory>
-    ensures { IfOk result (λ all. map (λ r. Some r) all.items ≡ responses.items) }
-{
-    let mut all = Vec::new(alloc);
-    for response in responses {
-        let Some(response) = response else {
-            return Err(Memory);
-        };
-        all.push(response)?;
-    }
-    Ok(all)
-}
-
 /// Makes requests to a cell with this collection, all at once, each in a thread with a pass of its
-/// own. Answers the collection that the cell ends with, and the response to each request.
+/// own. Answers the collection that the cell ends with, and the response to each request but those for
+/// which there was no memory.
 pub fn make_all<
     R: Threads + Wait + Sync,
     C: Share + Send + Sync,
@@ -157,7 +186,7 @@ pub fn make_all<
     alloc: Global,
     first: C,
     requests: &[Request<X>],
-) -> Result<(C, Vec<Response<C>>), Memory>
+) -> Result<(C, Vec<Option<Response<C>>>), Memory>
     requires some { (0 < length requests.now) × (length requests.now ≤ 8) }
     requires suits { (call : _) (kind : _) → X.suits call kind }
     ensures { IfOk result (λ t. AreMade C.plain X.meaning (C.plain first) (C.plain t.0) requests.now t.1.items) }
@@ -165,18 +194,14 @@ pub fn make_all<
     let count = requests.len();
     let responses = Vec::with_capacity(alloc, count)?;
     let seats = Vec::with_capacity(alloc, count)?;
-    let (cell, mut passes) = match ImmCell::make(alloc, count as u32, first) {
-        Ok(made) => made,
-        Err(memory) => {
-            seats.destroy_empty();
-            return Err(memory);
-        }
+    let Ok((cell, mut passes)) = ImmCell::make(alloc, count as u32, first) else {
+        seats.destroy_empty();
+        return Err(Memory);
     };
-    let mut seats = seated(&mut passes, seats);
-    respond_all(rt, alloc, &cell, seats.as_mut_slice(), requests);
+    let seats = seated(&mut passes, seats);
+    let seats = responded(rt, alloc, &cell, seats, requests);
     let responses = unseated(seats, &mut passes, responses);
     let closed = cell.close(alloc, passes)?;
     let last = closed.payload.value().share()?;
-    let responses = whole(alloc, responses)?;
     Ok((last, responses))
 }

@@ -1,7 +1,7 @@
 //! Commands that threads serve at once.
 ghost use Rattle.std.specs.Prelude.{◌≡◌, ◌<◌, ◌≤◌, IfOk, length, map};
 ghost use Rattle.interlocked.specs.Meanings.{dict_plain};
-ghost use Rattle.registry.specs.Registry.{AreServed, AreAnswers, request_of};
+ghost use Rattle.registry.specs.Registry.{AreAnswers, AreServed, IsAnswerTo, request_of};
 
 use crate::command::{Answer, Command, Registry};
 use crate::requests::{Request, Response, make_all};
@@ -22,24 +22,41 @@ fn requests(alloc: Global, commands: &[Command]) -> Result<Vec<Request<DictCall>
     Ok(requests)
 }
 
-/// What each command is answered, where these came of their requests.
+/// What a command is answered, if there was memory for its request.
+fn answer(
+    alloc: Global,
+    command: &Command,
+    response: &Option<Response<Registry>>,
+) -> Result<Answer, Memory>
+    ensures { IfOk result (IsAnswerTo command.now response.now) }
+{
+    match response {
+        Some(response) => command.answer(alloc, response),
+        None => Err(Memory),
+    }
+}
+
+/// What each command is answered.
+#[tactic(auto, using(crate::proofs::Answered::one_more))]
 fn answers(
     alloc: Global,
     commands: &[Command],
-    responses: &[Response<Registry>],
+    responses: &[Option<Response<Registry>>],
 ) -> Result<Vec<Answer>, Memory>
     requires { length commands.now ≡ length responses.now }
-    ensures { IfOk result (λ all. AreAnswers commands.now responses.now all.items) }
+    ensures count { IfOk result (λ all. length all.items ≡ length responses.now) }
+    ensures each { IfOk result (λ all. AreAnswers commands.now responses.now all.items) }
 {
     let mut answers = Vec::new(alloc);
     for (index, response) in responses.iter().enumerate() {
-        answers.push(commands[index].answer(alloc, response)?)?;
+        answers.push(answer(alloc, &commands[index], response)?)?;
     }
     Ok(answers)
 }
 
 /// Serves the commands at once, each in a thread of its own, by a cell that begins with this registry.
 /// Answers what it ends with, and the answer to each command.
+#[tactic(auto, using(crate::proofs::Served::all_served))]
 pub fn serve<R: Threads + Wait + Sync>(
     rt: &R,
     alloc: Global,

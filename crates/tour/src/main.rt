@@ -1,6 +1,7 @@
 //! A tour of the library. Each piece of code in docs/library.md is a function of this crate.
 #![tactic(auto)]
 
+mod cells;
 mod lists;
 mod maps;
 mod publishing;
@@ -10,6 +11,7 @@ mod walking;
 use imm_base::{Val, ValEq};
 use std::alloc::Global;
 use std::io;
+use std::sync::Wait;
 use std::thread::Threads;
 
 fn show_lists(rt: &impl Print, alloc: Global) -> io::Result<()> {
@@ -25,9 +27,10 @@ fn show_lists(rt: &impl Print, alloc: Global) -> io::Result<()> {
     }
 }
 
-fn show_maps<R: Print + Threads>(rt: &R, alloc: Global) -> io::Result<()> {
+fn show_maps<R: Print + Threads + Wait>(rt: &R, alloc: Global) -> io::Result<()> {
     println!(rt; "pools: {:?}", maps::pools(alloc))?;
     println!(rt; "frozen: {:?}", maps::frozen_pool(alloc))?;
+    println!(rt; "requests: {:?}", cells::requests(rt, alloc, Val::Int(80)))?;
     let none = maps::Routes::new(ValEq::Ordinal);
     match maps::get_or_add(alloc, &none, Val::Int(80), Val::Int(1)) {
         Ok((routes, _)) => {
