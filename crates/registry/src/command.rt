@@ -53,7 +53,7 @@ pub enum LineFault {
     Text,
 }
 
-fn text(word: &str) -> Result<Val, LineFault> {
+pub(crate) fn text(word: &str) -> Result<Val, LineFault> {
     match Text24::from_bytes(word.as_bytes()) {
         Some(text) => Ok(Val::Text(text)),
         None => Err(LineFault::Text),

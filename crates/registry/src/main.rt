@@ -6,6 +6,9 @@ mod command;
 mod requests;
 mod serving;
 
+#[cfg(test)]
+mod tests;
+
 use crate::command::{Command, LineFault, Registry};
 use crate::requests::MOST;
 use imm_base::{Memory, ValEq};
