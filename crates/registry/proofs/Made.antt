@@ -17,7 +17,7 @@ use Rattle.interlocked.specs.Rights.{IsAnswered, IsInstalled}
 use Rattle.registry.specs.declared.requests.Request.{Request}
 use Rattle.registry.specs.declared.requests.Request.TheVariants.{Change, Read}
 use Rattle.registry.specs.declared.requests.Response.TheVariants as responses
-use Rattle.registry.specs.Requests.{Has, IsMade}
+use Rattle.registry.specs.Requests.{Has, IsMade, in_short}
 use Rattle.registry.specs.declared.requests.Seat.{Seat}
 use Rattle.registry.specs.Seats.{AddsAtMost, MadeAt, Makes, values}
 use Rattle.registry.proofs.Places.{is_at}
@@ -27,7 +27,7 @@ value_of l = l.value.value
 
 module _ {C X : Type 0} (plain : C → Plain) (meaning : X → PlainCall) where
   installed : (hist : List (Line Kept)) (caller ordinal : ℕ) (change : X) (reply : Reply) (position : ℕ) → IsInstalled hist caller ordinal (meaning change) reply position
-      → IsMade plain meaning (values hist) (Change change) (responses.Reply reply)
+      → IsMade plain meaning (values hist) (Change change) (responses.Reply (in_short reply))
   installed hist caller ordinal change reply position h =
       let p : Plain = h.line.value.value in
       let same : h.next.value.value ≡ after (meaning change) p = ap (λ (k : Kept). k.value) h.grows ∙ sym (ap (λ (o : Outcome). unwrap_or o.installs p) h.outcome) in
@@ -35,14 +35,14 @@ module _ {C X : Type 0} (plain : C → Plain) (meaning : X → PlainCall) where
         place = h.before;
         value = p;
         there = at_map value_of hist h.before h.line h.at;
-        responds = sym (ap (λ (o : Outcome). o.reply) h.outcome);
+        responds = sym (ap (λ (o : Outcome). in_short o.reply) h.outcome);
         later = suc h.before;
         soon = (omega arith, omega arith);
         makes = at_map value_of hist (suc h.before) h.next h.there ∙ ap (λ (q : Plain). some q) same;
       }
 
   answered : (hist : List (Line Kept)) (change : X) (reply : Reply) (position : ℕ) → IsAnswered hist (meaning change) reply position
-      → IsMade plain meaning (values hist) (Change change) (responses.Reply reply)
+      → IsMade plain meaning (values hist) (Change change) (responses.Reply (in_short reply))
   answered hist change reply position h =
       let p : Plain = h.line.value.value in
       let same : after (meaning change) p ≡ p = ap (λ (o : Outcome). unwrap_or o.installs p) h.outcome in
@@ -50,7 +50,7 @@ module _ {C X : Type 0} (plain : C → Plain) (meaning : X → PlainCall) where
         place = position;
         value = p;
         there = at_map value_of hist position h.line h.at;
-        responds = sym (ap (λ (o : Outcome). o.reply) h.outcome);
+        responds = sym (ap (λ (o : Outcome). in_short o.reply) h.outcome);
         later = position;
         soon = (omega arith, omega arith);
         makes = at_map value_of hist position h.line h.at ∙ ap (λ (q : Plain). some q) (sym same);
@@ -58,7 +58,7 @@ module _ {C X : Type 0} (plain : C → Plain) (meaning : X → PlainCall) where
 
   stands : (b : Bool) (hist : List (Line Kept)) (caller ordinal : ℕ) (change : X) (reply : Reply) (position : ℕ)
       → MatchBool b (IsInstalled hist caller ordinal (meaning change) reply position) (IsAnswered hist (meaning change) reply position)
-      → IsMade plain meaning (values hist) (Change change) (responses.Reply reply)
+      → IsMade plain meaning (values hist) (Change change) (responses.Reply (in_short reply))
   stands true hist caller ordinal change reply position h = installed hist caller ordinal change reply position h
   stands false hist caller ordinal change reply position h = answered hist change reply position h
 
@@ -67,7 +67,7 @@ module _ {C X : Type 0} (plain : C → Plain) (meaning : X → PlainCall) where
   adds true p q change h = inr (change, refl, h)
   adds false p q change h = inl (ap added h)
 
-  pub makes_change : (p q : Known) (change : X) (reply : Reply) (stamp : Stamp) → IsDone p 1 (meaning change) q reply stamp → Makes plain meaning (Change change) p q (Some (responses.Reply reply))
+  pub makes_change : (p q : Known) (change : X) (reply : Reply) (stamp : Stamp) → IsDone p 1 (meaning change) q reply stamp → Makes plain meaning (Change change) p q (Some (responses.Reply (in_short reply)))
   makes_change p q change reply stamp h = record {
     table = h.later.table;
     number = h.later.number;

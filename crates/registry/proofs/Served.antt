@@ -31,7 +31,7 @@ use Rattle.registry.specs.declared.requests.Response.TheVariants as responses
 use Rattle.registry.specs.Registry as registry
 use Rattle.registry.specs.Registry.{AreAnswers, AreServed, answer, answer_to, found, request_of, told}
 use Rattle.registry.specs.Requests as of_cells
-use Rattle.registry.specs.Requests.{AreMade, Has, Responds}
+use Rattle.registry.specs.Requests.{AreMade, Has, Responds, in_short}
 use Rattle.registry.proofs.Places.{map_length, some_at}
 
 abbrev Map : Type 0
@@ -39,15 +39,15 @@ Map = Mapped Val Val ValEq
 
 -- ---- one command
 
-put_told : (name address : Val) (p : Plain) (known : Option Val) → told (add_or_update name address (Set address) p known).reply ≡ registry.stored p known
+put_told : (name address : Val) (p : Plain) (known : Option Val) → told (in_short (add_or_update name address (Set address) p known).reply) ≡ registry.stored p known
 put_told name address p (Some old) = one (val_eq address old)
   where
-    one : (b : Bool) → told (if b then reply_only (replies.Value address) else install_and_reply (with_value name address p) (replies.Value address)).reply ≡ answers.Stored
+    one : (b : Bool) → told (in_short (if b then reply_only (replies.Value address) else install_and_reply (with_value name address p) (replies.Value address)).reply) ≡ answers.Stored
     one true = refl
     one false = refl
 put_told name address p None = one (is_over (count p.values + 1))
   where
-    one : (b : Bool) → told (if b then reply_only (replies.Refused (refusals.TooLarge (count p.values))) else install_and_reply (with_value name address p) (replies.Value address)).reply ≡ (if b then answers.Full else answers.Stored)
+    one : (b : Bool) → told (in_short (if b then reply_only (replies.Refused (refusals.TooLarge (count p.values))) else install_and_reply (with_value name address p) (replies.Value address)).reply) ≡ (if b then answers.Full else answers.Stored)
     one true = refl
     one false = refl
 
@@ -63,7 +63,7 @@ put_next name address p None = one (is_over (count p.values + 1))
     one true = refl
     one false = refl
 
-drop_told : (name : Val) (p : Plain) (known : Option Val) → told (try_remove name p known).reply ≡ registry.dropped known
+drop_told : (name : Val) (p : Plain) (known : Option Val) → told (in_short (try_remove name p known).reply) ≡ registry.dropped known
 drop_told name p (Some old) = refl
 drop_told name p None = refl
 
@@ -77,10 +77,10 @@ module _ (eq : ValEq) (p : Plain) (kind : p.kind ≡ kinds.Dict eq) where
 
   right : (command : Command) (response : Response Map) → Responds dict_plain dict_call (request_of command) p response → answer_to command response ≡ answer command p
   right (commands.Put name address) (responses.Reply reply) h =
-      ap told h ∙ (ap (λ (o : Outcome). told o.reply) (on_dict (add_or_update name address (Set address) p (value_in name p))) ∙ put_told name address p (value_in name p))
+      ap told h ∙ (ap (λ (o : Outcome). told (in_short o.reply)) (on_dict (add_or_update name address (Set address) p (value_in name p))) ∙ put_told name address p (value_in name p))
   right (commands.Put name address) (responses.Value map) h = absurd h
   right (commands.Drop name) (responses.Reply reply) h =
-      ap told h ∙ (ap (λ (o : Outcome). told o.reply) (on_dict (try_remove name p (value_in name p))) ∙ drop_told name p (value_in name p))
+      ap told h ∙ (ap (λ (o : Outcome). told (in_short o.reply)) (on_dict (try_remove name p (value_in name p))) ∙ drop_told name p (value_in name p))
   right (commands.Drop name) (responses.Value map) h = absurd h
   right (commands.Get name) (responses.Reply reply) h = absurd h
   right (commands.Get name) (responses.Value map) h = ap (λ (q : Plain). found (value_in name q)) h

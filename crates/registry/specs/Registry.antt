@@ -6,8 +6,6 @@ use Rattle.imm_base.specs.Edits.{is_over}
 use Rattle.imm_base.specs.Order.{val_eq}
 use Rattle.imm_dictionary.specs.Mapped.{Mapped}
 use Rattle.plain_model.specs.declared.commands.Transform.TheVariants.{Set}
-use Rattle.plain_model.specs.declared.history.Reply.{Reply}
-use Rattle.plain_model.specs.declared.history.Reply.TheVariants as replies
 use Rattle.plain_model.specs.declared.plain.Plain.{Plain}
 use Rattle.plain_model.specs.Cell.{value_in, with_value, without_value}
 use Rattle.plain_model.specs.Plain.{count, pairs}
@@ -22,6 +20,8 @@ use Rattle.registry.specs.declared.requests.Request.{Request}
 use Rattle.registry.specs.declared.requests.Request.TheVariants as requests
 use Rattle.registry.specs.declared.requests.Response.{Response}
 use Rattle.registry.specs.declared.requests.Response.TheVariants as responses
+use Rattle.registry.specs.declared.requests.Told.{Told}
+use Rattle.registry.specs.declared.requests.Told.TheVariants as tells
 use Rattle.registry.specs.Requests.{Has}
 
 -- ---- a plain map: names with addresses
@@ -91,11 +91,11 @@ request_of (commands.Get name) = requests.Read
 request_of commands.List = requests.Read
 
 -- what a reply to a change tells
-abbrev pub told : Reply → Answer
-told (replies.Value address) = answers.Stored
-told (replies.Taken address) = answers.Dropped address
-told replies.Missing = answers.Unknown
-told _ = answers.Full
+abbrev pub told : Told → Answer
+told (tells.Value address) = answers.Stored
+told (tells.Taken address) = answers.Dropped address
+told tells.Missing = answers.Unknown
+told tells.Refused = answers.Full
 
 -- what a command tells of a registry that it has read
 abbrev pub looked_up : Command → Mapped Val Val ValEq → Answer

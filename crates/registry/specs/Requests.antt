@@ -12,6 +12,10 @@ use Rattle.interlocked.specs.Entries.{entry, added}
 use Rattle.interlocked.specs.Known.{Known, Knows}
 use Rattle.registry.specs.declared.requests.Request.{Request}
 use Rattle.registry.specs.declared.requests.Request.TheVariants.{Change, Read}
+use Rattle.plain_model.specs.declared.history.Reply.{Reply}
+use Rattle.plain_model.specs.declared.history.Reply.TheVariants as replies
+use Rattle.registry.specs.declared.requests.Told.{Told}
+use Rattle.registry.specs.declared.requests.Told.TheVariants as tells
 use Rattle.registry.specs.declared.requests.Response.{Response}
 use Rattle.registry.specs.declared.requests.Response.TheVariants as responses
 
@@ -19,11 +23,18 @@ use Rattle.registry.specs.declared.requests.Response.TheVariants as responses
 abbrev pub Has : {A : Type 0} → List A → ℕ → A → Type 0
 Has xs place x = get_elem? xs place ≡ some x
 
+-- a reply in short
+abbrev pub in_short : Reply → Told
+in_short (replies.Value value) = tells.Value value
+in_short (replies.Taken value) = tells.Taken value
+in_short replies.Missing = tells.Missing
+in_short _ = tells.Refused
+
 -- what a collection is as a plain one, and what a change means
 module _ {C X : Type 0} (plain : C → Plain) (meaning : X → PlainCall) where
   -- the response is that to the request, made where the cell has this value
   abbrev pub Responds : Request X → Plain → Response C → Type 0
-  Responds (Change change) value (responses.Reply reply) = reply ≡ (cell (meaning change) value).reply
+  Responds (Change change) value (responses.Reply reply) = reply ≡ in_short (cell (meaning change) value).reply
   Responds Read value (responses.Value got) = plain got ≡ value
   Responds request value response = ⊥
 

@@ -4,11 +4,11 @@ ghost use Rattle.interlocked.specs.Meanings.{dict_plain};
 ghost use Rattle.plain_model.specs.Cell.{value_in};
 ghost use Rattle.registry.specs.Registry.{answer_to, found, looked_up, request_of, told};
 
-use crate::requests::{Request, Response};
+use crate::requests::{Request, Response, Told};
 use imm_base::{Memory, Text24, Val, ValEq};
 use imm_dictionary::Dict;
 use interlocked::DictCall;
-use plain_model::{Listed, Reply, Transform};
+use plain_model::{Listed, Transform};
 use std::alloc::Global;
 use std::fmt;
 use thiserror::Error;
@@ -124,14 +124,14 @@ fn found(registry: &Registry, name: &Val) -> Answer
 }
 
 /// What the reply to a change tells.
-fn told(reply: &Reply) -> Answer
+fn told(reply: &Told) -> Answer
     ensures { result ≡ told reply.now }
 {
     match reply {
-        Reply::Value(_) => Answer::Stored,
-        Reply::Taken(address) => Answer::Dropped(*address),
-        Reply::Missing => Answer::Unknown,
-        _ => Answer::Full,
+        Told::Value(_) => Answer::Stored,
+        Told::Taken(address) => Answer::Dropped(*address),
+        Told::Missing => Answer::Unknown,
+        Told::Refused => Answer::Full,
     }
 }
 

@@ -1,10 +1,10 @@
 //! Requests to one cell, each made by a thread of its own.
 ghost use Rattle.std.specs.Prelude.{◌≡◌, ℕ, ◌<◌, ◌≤◌, [], All, IfOk, length, map, slice_index_or, vec_capacity};
 ghost use Rattle.std.specs.Result.{result_ok};
-ghost use Rattle.registry.specs.Requests.{AreMade};
+ghost use Rattle.registry.specs.Requests.{AreMade, in_short};
 ghost use Rattle.registry.specs.Seats.{MadeAt, Makes, seat};
 
-use imm_base::Memory;
+use imm_base::{Memory, Val};
 use interlocked::{CellPass, Change, ImmCell, Kept, Logged, Share};
 use plain_model::Reply;
 use std::alloc::Global;
@@ -24,11 +24,21 @@ pub enum Request<X> {
     Read,
 }
 
+/// The reply to a change in short: what goes from one thread to another is to be a small type.
+#[derive(Clone, Copy, Debug)]
+pub enum Told {
+    Value(Val),
+    Taken(Val),
+    Missing,
+    /// Any other reply.
+    Refused,
+}
+
 /// What a request is answered.
 #[derive(Drop)]
 pub enum Response<C> {
     /// The reply to a change.
-    Reply(Reply),
+    Reply(Told),
     /// The collection.
     Value(C),
 }
@@ -40,6 +50,18 @@ where
 {
     pass: CellPass<C, X>,
     response: Option<Response<C>>,
+}
+
+/// The reply in short.
+fn in_short(reply: &Reply) -> Told
+    ensures { result ≡ in_short reply.now }
+{
+    match reply {
+        Reply::Value(value) => Told::Value(*value),
+        Reply::Taken(value) => Told::Taken(*value),
+        Reply::Missing => Told::Missing,
+        _ => Told::Refused,
+    }
 }
 
 /// Makes one request.
@@ -59,7 +81,7 @@ fn respond<R: Wait, C: Share, X: Change<C>>(
     match request {
         Request::Change(change) => {
             let (reply, _) = cell.call(rt, alloc, pass, 1, change)?;
-            Ok(Response::Reply(reply))
+            Ok(Response::Reply(in_short(&reply)))
         }
         Request::Read => {
             let (value, _) = cell.read(rt, pass)?;
@@ -177,6 +199,7 @@ fn unseated<C: Share, X: Change<C>>(
 /// Makes requests to a cell with this collection, all at once, each in a thread with a pass of its
 /// own. Answers the collection that the cell ends with, and the response to each request but those for
 /// which there was no memory.
+#[tactic(auto, using(crate::proofs::Closed::passes_long, crate::proofs::Closed::seats_long, crate::proofs::Closed::seats_new, crate::proofs::Closed::of_cell, crate::proofs::Closed::all_numbers, crate::proofs::Closed::whole_made))]
 pub fn make_all<
     R: Threads + Wait + Sync,
     C: Share + Send + Sync,
