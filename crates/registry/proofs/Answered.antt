@@ -17,11 +17,11 @@ pub one_more : (asked : List Command) (came : List (Option (Response (Mapped Val
     → length given ≡ index → command ≡ get_or asked index command → response ≡ get_or came index response → IsAnswerTo command response one → given' ≡ given ++ one ∷ [] → AreAnswers asked came given → AreAnswers asked came given'
 one_more asked came given given' index command response one long command_is response_is answer more h = record {
   each = λ k c r o e f g. ⊎_elim
-    (λ (before : Has given k o). h.each k c r o e f before)
-    (λ (last : (k ≡ length given) × (one ≡ o)).
-        let here : k ≡ index = last.0 ∙ long in
-        let c_is : command ≡ c = command_is ∙ is_at asked index c command (ap (λ (n : ℕ). get_elem? asked n) (sym here) ∙ e) in
-        let r_is : response ≡ r = response_is ∙ is_at came index r response (ap (λ (n : ℕ). get_elem? came n) (sym here) ∙ f) in
-        subst (λ (t : Command × Option (Response (Mapped Val Val ValEq)) × Answer). IsAnswerTo t.0 t.1 t.2) (λ i. (c_is i, r_is i, last.1 i)) answer)
-    (at_end given one o k (ap (λ (l : List Answer). get_elem? l k) (sym more) ∙ g));
+      (λ (before : Has given k o). h.each k c r o e f before)
+      (λ (last : (k ≡ length given) × (one ≡ o)).
+      let here : k ≡ index = last.0 ∙ long in
+      let c_is : command ≡ c = command_is ∙ is_at asked index c command (ap (λ (n : ℕ). get_elem? asked n) (sym here) ∙ e) in
+      let r_is : response ≡ r = response_is ∙ is_at came index r response (ap (λ (n : ℕ). get_elem? came n) (sym here) ∙ f) in
+      subst (λ (t : Command × Option (Response (Mapped Val Val ValEq)) × Answer). IsAnswerTo t.0 t.1 t.2) (λ i. (c_is i, r_is i, last.1 i)) answer)
+      (at_end given one o k (ap (λ (l : List Answer). get_elem? l k) (sym more) ∙ g));
 }

@@ -40,4 +40,3 @@ counted from (suc n) (suc k) h = let e : suc from + k ≡ from + suc k = omega a
 pub counts : (from n : ℕ) → length (counting from n) ≡ n
 counts from zero = refl
 counts from (suc n) = let h = counts (suc from) n in omega arith
-

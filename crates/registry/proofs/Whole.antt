@@ -77,8 +77,7 @@ module _ {C X : Type 0} (table : TableId) (n : ℕ) (first : Kept) (olds : List 
         let near : k < n = (let a = same in let b = long in omega arith) in
         let r = some_at requests k (let a = many in omega arith) in
         let before : (get_or olds k s).pass ≡ old k = ap (λ (t : Seat C X). t.pass) (is_at olds k (seat (old k)) s (old_at k near)) in
-        let after : get_or news k s ≡ s = is_at news k s s e in
-        (
+        let after : get_or news k s ≡ s = is_at news k s s e in (
           r.0,
           r.1,
           subst (λ (t : Known × Seat C X). Makes plain meaning r.0 t.0 t.1.pass t.1.response) (λ i. (before i, after i)) ((each k s (let a = same in omega arith)).made r.0 r.1),
@@ -100,8 +99,7 @@ module _ {C X : Type 0} (table : TableId) (n : ℕ) (first : Kept) (olds : List 
     are_all number some_number few =
         let k : ℕ = number - 1 in
         let t = some_at news k (let a = same in let b = long in omega arith) in
-        let one : 1 + k ≡ number = omega arith in
-        (
+        let one : 1 + k ≡ number = omega arith in (
           k,
           t.0.pass.view,
           at_map (λ (p : Known). p.view) passes k t.0.pass (at_map (λ (u : Seat C X). u.pass) news k t.0 t.1),
@@ -130,7 +128,7 @@ module _ {C X : Type 0} (table : TableId) (n : ℕ) (first : Kept) (olds : List 
           let d = did k s.0 s.1 in
           let request_is : d.0 ≡ request = some-injective d.0 request (sym d.1 ∙ q) in
           let made : IsMade plain meaning (values s.0.pass.view.seen) request response =
-              subst (λ (t : Request X × Option (Response C)). MatchOption t.1 (Unit {0}) (λ (x : Response C). IsMade plain meaning (values s.0.pass.view.seen) t.0 x)) (λ i. (request_is i, s.2 i)) d.2.made in
+          subst (λ (t : Request X × Option (Response C)). MatchOption t.1 (Unit {0}) (λ (x : Response C). IsMade plain meaning (values s.0.pass.view.seen) t.0 x)) (λ i. (request_is i, s.2 i)) d.2.made in
           let seen = whole.ends.seen k s.0.pass.view (at_map (λ (p : Known). p.view) passes k s.0.pass (at_map (λ (u : Seat C X). u.pass) news k s.0 s.1)) in
           let all : values hist ≡ values s.0.pass.view.seen ++ values seen.0 = ap values seen.1 ∙ map-append value_of s.0.pass.view.seen seen.0 in
           subst (λ (h : List Plain). IsMade plain meaning h request response) (sym all) (grown (values s.0.pass.view.seen) (values seen.0) request response made)
@@ -141,11 +139,11 @@ module _ {C X : Type 0} (table : TableId) (n : ℕ) (first : Kept) (olds : List 
       by_request : (k : ℕ) (request : Request X) (v : View Kept) (e : Entry PlainCall) (j : ℕ) (value value' : Plain) → Has requests k request → AddsAtMost plain meaning request (old k).view v → Has (added v.mine) j e
           → value' ≡ after e.call value → Step value value'
       by_request k request v e j value value' asked adds there makes = ⊎_elim
-        (λ (none : added v.mine ≡ []). absurd (some-ne-none e (sym (ap (λ (es : List (Entry PlainCall)). get_elem? es j) (sym none) ∙ there))))
-        (λ (one : (change : X) × (request ≡ Change change) × (added v.mine ≡ entry (old k).view.number 1 (meaning change) ∷ [])).
-            let same : e ≡ entry (old k).view.number 1 (meaning one.0) = only (entry (old k).view.number 1 (meaning one.0)) e j (ap (λ (es : List (Entry PlainCall)). get_elem? es j) (sym one.2) ∙ there) in
-            (k, request, asked, makes ∙ (ap (λ (x : Entry PlainCall). after x.call value) same ∙ ap (λ (r : Request X). next plain meaning r value) (sym one.1))))
-        adds
+          (λ (none : added v.mine ≡ []). absurd (some-ne-none e (sym (ap (λ (es : List (Entry PlainCall)). get_elem? es j) (sym none) ∙ there))))
+          (λ (one : (change : X) × (request ≡ Change change) × (added v.mine ≡ entry (old k).view.number 1 (meaning change) ∷ [])).
+          let same : e ≡ entry (old k).view.number 1 (meaning one.0) = only (entry (old k).view.number 1 (meaning one.0)) e j (ap (λ (es : List (Entry PlainCall)). get_elem? es j) (sym one.2) ∙ there) in
+          (k, request, asked, makes ∙ (ap (λ (x : Entry PlainCall). after x.call value) same ∙ ap (λ (r : Request X). next plain meaning r value) (sym one.1))))
+          adds
 
       step : (i : ℕ) (l m : Line Kept) → Has hist i l → Has hist (suc i) m → Step l.value.value m.value.value
       step i l m e f =

@@ -5,7 +5,6 @@
 mod command;
 mod requests;
 mod serving;
-
 #[cfg(test)]
 mod tests;
 

@@ -200,11 +200,7 @@ fn unseated<C: Share, X: Change<C>>(
 /// own. Answers the collection that the cell ends with, and the response to each request but those for
 /// which there was no memory.
 #[tactic(auto, using(crate::proofs::Closed::passes_long, crate::proofs::Closed::seats_long, crate::proofs::Closed::seats_new, crate::proofs::Closed::of_cell, crate::proofs::Closed::all_numbers, crate::proofs::Closed::whole_made))]
-pub fn make_all<
-    R: Threads + Wait + Sync,
-    C: Share + Send + Sync,
-    X: Change<C> + Send + Sync,
->(
+pub fn make_all<R: Threads + Wait + Sync, C: Share + Send + Sync, X: Change<C> + Send + Sync>(
     rt: &R,
     alloc: Global,
     first: C,
