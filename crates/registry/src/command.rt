@@ -49,7 +49,7 @@ pub enum LineFault {
     Command,
     #[error("wrong number of words; write put NAME ADDRESS, drop NAME, get NAME or list")]
     Words,
-    #[error("a name or an address has at most 24 printable ASCII characters, no quote and no backslash")]
+    #[error("a name or an address has at most 24 plain characters, no quote and no backslash")]
     Text,
 }
 
