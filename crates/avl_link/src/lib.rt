@@ -7,8 +7,6 @@ mod find;
 mod freeze;
 mod link;
 mod remove;
-#[cfg(test)]
-mod tests;
 mod turn;
 mod walk;
 

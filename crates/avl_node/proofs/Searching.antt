@@ -1,14 +1,15 @@
 -- Where a search in a sorted list ends.
-use Rattle.std.proofs.Common.{◌≡◌, ℕ, suc, zero, ◌+◌, ◌<◌, ◌≤◌, ℤ, pos, negsuc, Bool, true, false, not, cond, ltb, List, [], ◌∷◌, length, arith, ap, sym, ◌∙◌, refl, subst, Some, None}
+use Rattle.std.proofs.Common.{◌≡◌, ℕ, suc, zero, ◌+◌, ◌<◌, ◌≤◌, ℤ, pos, negsuc, Bool, true, false, not, cond, ltb, List, [], ◌∷◌, length, arith, ap, sym, ◌∙◌, refl, subst, Option, Some, None, slice_get}
 use Rattle.std.specs.List.{AllByRecursion, filter, prefix_len}
-use Rattle.std.specs.Option.{option_map_or}
+use Rattle.std.specs.Option.{option_map_or, is_some}
 use Rattle.std.specs.Ordering.{is_lt, is_eq}
 use Rattle.std.specs.declared.cmp.Ordering.{Ordering}
 use Rattle.std.specs.declared.cmp.Ordering.TheVariants.{Less, Equal, Greater}
 use Rattle.std.proofs.lemmas.Bool.{lt-ltb, le-ltb}
 use Rattle.std.proofs.lemmas.List.Sums.{prefix_len-le-length}
-use Rattle.avl_node.specs.Search.{IsFoundAt, IsMissingAt}
-use Rattle.avl_node.specs.Sides.{lower_bound, is_equal_at, IsSplit, SidesAscend}
+use Rattle.avl_node.specs.Search.{IsElementAt, IsFoundAt, IsMissingAt}
+use Rattle.avl_node.specs.Sides.{lower_bound, equal_at, is_equal_at, IsSplit, SidesAscend}
+use Rattle.avl_node.proofs.SideLemmas.{found_by}
 
 module _ {T : Type 0} (side : T → Ordering) where
   abbrev other : T → Bool
@@ -89,3 +90,25 @@ module _ {T : Type 0} (side : T → Ordering) where
         inside = subst (λ j. j ≤ length xs) (sym at) (prefix_len-le-length (λ x. is_lt (side x)) xs);
         index = ap (λ n. option_map_or pos (cond (ltb n (length xs)) (Some n) None) missing) end ∙ ap (λ t. option_map_or pos (cond t (Some (length xs)) None) missing) (le-ltb (length xs) (length xs) (omega arith)) ∙ ap negsuc (less_before xs up.split ∙ sym at);
       }
+
+  -- an element that is equal at a place stands there
+  stands_at : (xs : List T) (i : ℕ) (x : T) → equal_at side xs i ≡ Some x → slice_get xs i ≡ Some x
+  stands_at [] i x is = absurd cc
+  stands_at (y ∷ xs) zero x is =
+      elim (is_eq (side y)) as (λ t. cond t (Some y) None ≡ Some x → Some y ≡ Some x) [
+        | true ↦ λ e. e
+        | false ↦ λ e. absurd cc
+      ] is
+  stands_at (y ∷ xs) (suc i) x is = stands_at xs i x is
+
+  -- what is known of that place and its element, by whether there is one
+  pub element_at : (xs : List T) (i : ℕ) (e : Option T) (x : T) → SidesAscend side xs → i ≡ lower_bound side xs → e ≡ equal_at side xs i → e ≡ Some x → IsElementAt side xs x i
+  element_at xs i e x up at seen is =
+      record {
+        at = found_at xs i true up at (sym (sym (found_by side xs i e seen) ∙ ap is_some is)) refl;
+        element = stands_at xs i x (sym seen ∙ is);
+      }
+
+  pub no_element_at : (xs : List T) (i : ℕ) (e : Option T) → SidesAscend side xs → i ≡ lower_bound side xs → e ≡ equal_at side xs i → e ≡ None → IsMissingAt side xs i
+  no_element_at xs i e up at seen is =
+      missing_at xs i false up at (sym (sym (found_by side xs i e seen) ∙ ap is_some is)) refl

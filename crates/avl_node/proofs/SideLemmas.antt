@@ -1,10 +1,11 @@
 -- The place in a node's list, from the place in one side.
-use Rattle.std.proofs.Common.{◌≡◌, ℕ, suc, zero, ◌+◌, Bool, true, false, cond, List, [], ◌∷◌, ◌++◌, length, arith, ap, sym, ◌∙◌, refl, subst}
+use Rattle.std.proofs.Common.{◌≡◌, ℕ, suc, zero, ◌+◌, Bool, true, false, cond, List, [], ◌∷◌, ◌++◌, length, Option, Some, None, arith, ap, sym, ◌∙◌, refl, subst}
 use Rattle.std.specs.List.{AllByRecursion}
+use Rattle.std.specs.Option.{option_or, option_map, is_some}
 use Rattle.std.specs.Ordering.{is_lt, is_eq}
 use Rattle.std.specs.declared.cmp.Ordering.{Ordering}
 use Rattle.std.specs.declared.cmp.Ordering.TheVariants.{Less, Equal, Greater}
-use Rattle.avl_node.specs.Sides.{lower_bound, is_equal_at, IsSplit, SidesAscend}
+use Rattle.avl_node.specs.Sides.{lower_bound, is_equal_at, equal_at, IsSplit, SidesAscend}
 
 module _ {T : Type 0} where
   all_middle : (P : T → Type 0) (l : List T) (x : T) (m : List T) → AllByRecursion P (l ++ x ∷ m) → P x
@@ -14,6 +15,14 @@ module _ {T : Type 0} where
   all_front : (P : T → Type 0) (l m : List T) → AllByRecursion P (l ++ m) → AllByRecursion P l
   all_front P [] m all = tt
   all_front P (y ∷ l) m all = (all.0, all_front P l m all.1)
+
+pub map_or : {A B : Type 0} (f : A → B) (e : Option A) (a : A) → option_map f (option_or e (Some a)) ≡ option_or (option_map f e) (Some (f a))
+map_or f None a = refl
+map_or f (Some b) a = refl
+
+pub some_map : {A B : Type 0} (f : A → B) (e : Option A) → is_some (option_map f e) ≡ is_some e
+some_map f None = refl
+some_map f (Some b) = refl
 
 module _ {T : Type 0} (side : T → Ordering) where
   split_front : (l m : List T) → IsSplit side (l ++ m) → IsSplit side l
@@ -43,29 +52,59 @@ module _ {T : Type 0} (side : T → Ordering) where
   place_left (y ∷ l) x m level =
       ap (λ n. cond (is_lt (side y)) (1 + n) 0) (place_left l x m level)
 
-  level_right : (l : List T) (x : T) (m : List T) (i : ℕ) → is_equal_at side (l ++ x ∷ m) (length l + 1 + i) ≡ is_equal_at side m i
-  level_right [] x m i = ap (λ k. is_equal_at side (x ∷ m) k) (let e : 0 + 1 + i ≡ suc i = omega arith in e)
-  level_right (y ∷ l) x m i =
-      ap (λ k. is_equal_at side (y ∷ (l ++ x ∷ m)) k) (let e : suc (length l) + 1 + i ≡ suc (length l + 1 + i) = omega arith in e) ∙ level_right l x m i
+  element_right : (l : List T) (x : T) (m : List T) (i : ℕ) → equal_at side (l ++ x ∷ m) (length l + 1 + i) ≡ equal_at side m i
+  element_right [] x m i = ap (λ k. equal_at side (x ∷ m) k) (let e : 0 + 1 + i ≡ suc i = omega arith in e)
+  element_right (y ∷ l) x m i =
+      ap (λ k. equal_at side (y ∷ (l ++ x ∷ m)) k) (let e : suc (length l) + 1 + i ≡ suc (length l + 1 + i) = omega arith in e) ∙ element_right l x m i
 
-  level_cons : (r : Ordering) (y : T) (l : List T) (x : T) (m : List T) → side y ≡ r → IsSplit side (y ∷ (l ++ x ∷ m)) → side x ≡ Equal → is_equal_at side (l ++ x ∷ m) (lower_bound side l) ≡ true → is_equal_at side (y ∷ (l ++ x ∷ m)) (lower_bound side (y ∷ l)) ≡ true
-  level_cons Less y l x m is up same rest =
-      ap (λ k. is_equal_at side (y ∷ (l ++ x ∷ m)) k) (place_cons_less y l is) ∙ rest
-  level_cons Equal y l x m is up same rest =
-      ap (λ k. is_equal_at side (y ∷ (l ++ x ∷ m)) k) (place_cons_level y l (ap is_lt is)) ∙ ap is_eq is
-  level_cons Greater y l x m is up same rest = absurd (let more : side x ≡ Greater = all_middle _ l x m (up.1 is) in cc)
+  element_cons : (r : Ordering) (y : T) (l : List T) (x : T) (m : List T) → side y ≡ r → IsSplit side (y ∷ (l ++ x ∷ m)) → side x ≡ Equal → equal_at side (l ++ x ∷ m) (lower_bound side l) ≡ option_or (equal_at side l (lower_bound side l)) (Some x) → equal_at side (y ∷ (l ++ x ∷ m)) (lower_bound side (y ∷ l)) ≡ option_or (equal_at side (y ∷ l) (lower_bound side (y ∷ l))) (Some x)
+  element_cons Less y l x m is up same rest =
+      ap (λ k. equal_at side (y ∷ (l ++ x ∷ m)) k) (place_cons_less y l is) ∙ rest ∙ ap (λ k. option_or (equal_at side (y ∷ l) k) (Some x)) (sym (place_cons_less y l is))
+  element_cons Equal y l x m is up same rest =
+      let here : equal_at side (y ∷ l) zero ≡ Some y = ap (λ o. cond (is_eq o) (Some y) None) is in
+      ap (λ k. equal_at side (y ∷ (l ++ x ∷ m)) k) (place_cons_level y l (ap is_lt is)) ∙ here ∙ ap (λ e. option_or e (Some x)) (sym here) ∙ ap (λ k. option_or (equal_at side (y ∷ l) k) (Some x)) (sym (place_cons_level y l (ap is_lt is)))
+  element_cons Greater y l x m is up same rest = absurd (let more : side x ≡ Greater = all_middle _ l x m (up.1 is) in cc)
 
-  level_middle : (l : List T) (x : T) (m : List T) → IsSplit side (l ++ x ∷ m) → side x ≡ Equal → is_equal_at side (l ++ x ∷ m) (lower_bound side l) ≡ true
-  level_middle [] x m up same = ap is_eq same
-  level_middle (y ∷ l) x m up same = level_cons (side y) y l x m refl up same (level_middle l x m up.2 same)
+  element_middle : (l : List T) (x : T) (m : List T) → IsSplit side (l ++ x ∷ m) → side x ≡ Equal → equal_at side (l ++ x ∷ m) (lower_bound side l) ≡ option_or (equal_at side l (lower_bound side l)) (Some x)
+  element_middle [] x m up same = ap (λ o. cond (is_eq o) (Some x) None) same
+  element_middle (y ∷ l) x m up same = element_cons (side y) y l x m refl up same (element_middle l x m up.2 same)
 
-  level_left : (l : List T) (x : T) (m : List T) → side x ≡ Greater → is_equal_at side (l ++ x ∷ m) (lower_bound side l) ≡ is_equal_at side l (lower_bound side l)
-  level_left [] x m more = ap is_eq more
-  level_left (y ∷ l) x m more =
-      elim (is_lt (side y)) as (λ t. is_lt (side y) ≡ t → is_equal_at side (y ∷ (l ++ x ∷ m)) (cond t (1 + lower_bound side l) 0) ≡ is_equal_at side (y ∷ l) (cond t (1 + lower_bound side l) 0)) [
-        | true ↦ λ e. (let up : 1 + lower_bound side l ≡ suc (lower_bound side l) = omega arith in subst (λ k. is_equal_at side (y ∷ (l ++ x ∷ m)) k ≡ is_equal_at side (y ∷ l) k) (sym up) (level_left l x m more))
+  element_left : (l : List T) (x : T) (m : List T) → side x ≡ Greater → equal_at side (l ++ x ∷ m) (lower_bound side l) ≡ equal_at side l (lower_bound side l)
+  element_left [] x m more = ap (λ o. cond (is_eq o) (Some x) None) more
+  element_left (y ∷ l) x m more =
+      elim (is_lt (side y)) as (λ t. is_lt (side y) ≡ t → equal_at side (y ∷ (l ++ x ∷ m)) (cond t (1 + lower_bound side l) 0) ≡ equal_at side (y ∷ l) (cond t (1 + lower_bound side l) 0)) [
+        | true ↦ λ e. (let up : 1 + lower_bound side l ≡ suc (lower_bound side l) = omega arith in subst (λ k. equal_at side (y ∷ (l ++ x ∷ m)) k ≡ equal_at side (y ∷ l) k) (sym up) (element_left l x m more))
         | false ↦ λ e. refl
       ] refl
+
+  -- there is an equal element at a place exactly where one is found there
+  is_some_at : (xs : List T) (i : ℕ) → is_equal_at side xs i ≡ is_some (equal_at side xs i)
+  is_some_at [] i = refl
+  is_some_at (x ∷ xs) zero =
+      elim (is_eq (side x)) as (λ t. t ≡ is_some (cond t (Some x) None)) [
+        | true ↦ refl
+        | false ↦ refl
+      ]
+  is_some_at (x ∷ xs) (suc i) = is_some_at xs i
+
+  pub found_by : (xs : List T) (i : ℕ) (e : Option T) → e ≡ equal_at side xs i → is_some e ≡ is_equal_at side xs i
+  found_by xs i e is = ap (λ o. is_some o) is ∙ sym (is_some_at xs i)
+
+  level_right : (l : List T) (x : T) (m : List T) (i : ℕ) → is_equal_at side (l ++ x ∷ m) (length l + 1 + i) ≡ is_equal_at side m i
+  level_right l x m i =
+      is_some_at (l ++ x ∷ m) (length l + 1 + i) ∙ found_by m i (equal_at side (l ++ x ∷ m) (length l + 1 + i)) (element_right l x m i)
+
+  some_or : (e : Option T) (x : T) → is_some (option_or e (Some x)) ≡ true
+  some_or None x = refl
+  some_or (Some y) x = refl
+
+  level_middle : (l : List T) (x : T) (m : List T) → IsSplit side (l ++ x ∷ m) → side x ≡ Equal → is_equal_at side (l ++ x ∷ m) (lower_bound side l) ≡ true
+  level_middle l x m up same =
+      is_some_at (l ++ x ∷ m) (lower_bound side l) ∙ ap (λ o. is_some o) (element_middle l x m up same) ∙ some_or (equal_at side l (lower_bound side l)) x
+
+  level_left : (l : List T) (x : T) (m : List T) → side x ≡ Greater → is_equal_at side (l ++ x ∷ m) (lower_bound side l) ≡ is_equal_at side l (lower_bound side l)
+  level_left l x m more =
+      is_some_at (l ++ x ∷ m) (lower_bound side l) ∙ found_by l (lower_bound side l) (equal_at side (l ++ x ∷ m) (lower_bound side l)) (element_left l x m more)
 
 -- the answer for a node, from the answer for one side
 module _ {T : Type 0} (side : T → Ordering) (items l : List T) (x : T) (m : List T) (is : items ≡ l ++ x ∷ m) where
@@ -100,3 +139,17 @@ module _ {T : Type 0} (side : T → Ordering) (items l : List T) (x : T) (m : Li
   greater_found place found more child seen up =
       let below : place ≡ lower_bound side l = child (front up) in
       seen (front up) ∙ ap (λ (i : ℕ). is_equal_at side l i) below ∙ sym (level_left side l x m more) ∙ ap (λ (i : ℕ). is_equal_at side (l ++ x ∷ m) i) (sym below) ∙ ap (λ (t : List T). is_equal_at side t place) (sym is)
+
+  pub less_element : (before place : ℕ) (e : Option T) → before ≡ length l → (SidesAscend side m → e ≡ equal_at side m place) → SidesAscend side items → e ≡ equal_at side items (before + 1 + place)
+  less_element before place e b child up =
+      child (back up) ∙ sym (element_right side l x m place) ∙ ap (λ (i : ℕ). equal_at side (l ++ x ∷ m) (i + 1 + place)) (sym b) ∙ ap (λ (t : List T). equal_at side t (before + 1 + place)) (sym is)
+
+  pub equal_element : (place : ℕ) (e : Option T) → side x ≡ Equal → (SidesAscend side l → place ≡ lower_bound side l) → (SidesAscend side l → e ≡ equal_at side l place) → SidesAscend side items → option_or e (Some x) ≡ equal_at side items place
+  equal_element place e same child seen up =
+      let below : place ≡ lower_bound side l = child (front up) in
+      ap (λ (o : Option T). option_or o (Some x)) (seen (front up) ∙ ap (λ (i : ℕ). equal_at side l i) below) ∙ sym (element_middle side l x m (whole up) same) ∙ ap (λ (i : ℕ). equal_at side (l ++ x ∷ m) i) (sym below) ∙ ap (λ (t : List T). equal_at side t place) (sym is)
+
+  pub greater_element : (place : ℕ) (e : Option T) → side x ≡ Greater → (SidesAscend side l → place ≡ lower_bound side l) → (SidesAscend side l → e ≡ equal_at side l place) → SidesAscend side items → e ≡ equal_at side items place
+  greater_element place e more child seen up =
+      let below : place ≡ lower_bound side l = child (front up) in
+      seen (front up) ∙ ap (λ (i : ℕ). equal_at side l i) below ∙ sym (element_left side l x m more) ∙ ap (λ (i : ℕ). equal_at side (l ++ x ∷ m) i) (sym below) ∙ ap (λ (t : List T). equal_at side t place) (sym is)

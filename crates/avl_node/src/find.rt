@@ -1,9 +1,10 @@
 // The place of something in a tree, by the side on which it has each element.
 ghost use Rattle.std.specs.Prelude.{◌≡◌, ◌≤◌, length, false, MatchResult};
+ghost use Rattle.std.specs.Option.{option_copied};
 ghost use Rattle.std.specs.declared.cmp.Ordering.{Ordering};
 ghost use Rattle.imm_base.specs.Lists.{is_unsorted};
-ghost use Rattle.avl_node.specs.Search.{IsFoundAt, IsMissingAt};
-ghost use Rattle.avl_node.specs.Sides.{lower_bound, is_equal_at, SidesAscend};
+ghost use Rattle.avl_node.specs.Search.{IsElementAt, IsFoundAt, IsMissingAt};
+ghost use Rattle.avl_node.specs.Sides.{lower_bound, equal_at, is_equal_at, SidesAscend};
 
 use crate::tree::{Node, Root, Tree};
 use imm_base::{Item, Order};
@@ -74,6 +75,21 @@ impl<T: Item> Tree<T> {
         if found { Ok(place) } else { Err(place) }
     }
 
+    /// The place of the first element that is equal to what is looked for, with that element, or the
+    /// place that it would have where none is. It goes down the tree once, in O(log n).
+    pub fn locate<P: Probe<T>>(&self, probe: &P) -> Result<(u32, &T), u32>
+        requires { SidesAscend (P.side probe.now) self.now.items }
+        ensures { MatchResult result
+            (λ r. IsElementAt (P.side probe.now) self.now.items r.1.now r.0)
+            (IsMissingAt (P.side probe.now) self.now.items) }
+    {
+        let (place, element) = self.first_equal(probe);
+        match element {
+            Some(element) => Ok((place, element)),
+            None => Err(place),
+        }
+    }
+
     /// The first place whose element is not before what is looked for, and whether that element is
     /// equal to it. It says nothing of the place where the sides do not ascend. O(log n).
     pub fn find_in<P: Probe<T>>(&self, probe: &P) -> (u32, bool)
@@ -83,22 +99,35 @@ impl<T: Item> Tree<T> {
         ensures found { SidesAscend (P.side probe.now) self.now.items →
             result.1 ≡ is_equal_at (P.side probe.now) self.now.items result.0 }
     {
+        let (place, element) = self.first_equal(probe);
+        (place, element.is_some())
+    }
+
+    // The first place whose element is not before what is looked for, and that element where it is
+    // equal to it.
+    fn first_equal<P: Probe<T>>(&self, probe: &P) -> (u32, Option<&T>)
+        ensures within { result.0 ≤ length self.now.items }
+        ensures place { SidesAscend (P.side probe.now) self.now.items →
+            result.0 ≡ lower_bound (P.side probe.now) self.now.items }
+        ensures element { SidesAscend (P.side probe.now) self.now.items →
+            option_copied result.1 ≡ equal_at (P.side probe.now) self.now.items result.0 }
+    {
         // (for the proof alone: that the count fits 32 bits)
         let _count = self.count();
         match &self.root {
-            Root::Empty => (0, false),
+            Root::Empty => (0, None),
             Root::Fork(shared) => {
                 let node: &Node<T> = shared;
                 match probe.side(&node.value) {
                     Ordering::Less => {
-                        let (place, found) = node.right.find_in(probe);
-                        (node.before + 1 + place, found)
+                        let (place, element) = node.right.first_equal(probe);
+                        (node.before + 1 + place, element)
                     }
                     Ordering::Equal => {
-                        let (place, _) = node.left.find_in(probe);
-                        (place, true)
+                        let (place, element) = node.left.first_equal(probe);
+                        (place, element.or(Some(&node.value)))
                     }
-                    Ordering::Greater => node.left.find_in(probe),
+                    Ordering::Greater => node.left.first_equal(probe),
                 }
             }
         }

@@ -30,16 +30,3 @@ pub use map::MapBuilder;
 pub use map_change::MapChange;
 pub use set::SetBuilder;
 pub use set_change::SetChange;
-
-#[cfg(test)]
-mod dict_tests;
-#[cfg(test)]
-mod hash_set_tests;
-#[cfg(test)]
-mod map_tests;
-#[cfg(test)]
-mod refusal_tests;
-#[cfg(test)]
-mod set_tests;
-#[cfg(test)]
-mod tests;

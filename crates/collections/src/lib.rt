@@ -16,6 +16,3 @@ mod stack;
 
 pub use collection::Collection;
 pub use of_kind::{Changed, Judged};
-
-#[cfg(test)]
-mod tests;

@@ -6,16 +6,10 @@
 #![tactic(auto)]
 
 mod built;
-#[cfg(test)]
-mod built_tests;
 mod collections;
 mod rest;
 mod series;
-#[cfg(test)]
-mod shared_tests;
 mod shared_walk;
-#[cfg(test)]
-mod tests;
 mod walk;
 mod walked;
 

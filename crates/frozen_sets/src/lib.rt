@@ -13,6 +13,3 @@ mod table;
 pub use map::FrozenMap;
 pub use plain_model::Strategy;
 pub use set::FrozenSet;
-
-#[cfg(test)]
-mod tests;

@@ -6,6 +6,3 @@ mod summaries;
 
 pub use scripts::{NUMBER_LIMIT, gen_script};
 pub use summaries::summary_text;
-
-#[cfg(test)]
-mod tests;

@@ -4,7 +4,7 @@ ghost use Rattle.std.specs.List.{list_any};
 ghost use Rattle.avl_node.specs.Shape.{Fits};
 ghost use Rattle.imm_base.specs.Edits.{is_over};
 ghost use Rattle.imm_base.specs.Lists.{list_remove_all};
-ghost use Rattle.imm_base.specs.Sets.{set_add, set_remove};
+ghost use Rattle.imm_base.specs.Sets.{has, set_add, set_remove};
 ghost use Rattle.hash_bucket.specs.Answers.{Answers, AnswersNew};
 ghost use Rattle.hash_bucket.specs.Buckets.{AreBuckets, elements, hash_order};
 ghost use Rattle.hash_bucket.specs.Rows.{others, set_same, with_same};
@@ -31,7 +31,7 @@ impl<T: Key, H: HashEq<T>> HashTree<T, H> {
             let count = self.count();
             return Err(TreeFault::TooLarge { count });
         }
-        Ok(Edit::New(self.with(alloc, value)?))
+        Ok(Edit::New(self.with_found(alloc, value, false)?))
     }
 
     /// The elements with the value, in place of the same one where it is present. It costs what `add`
@@ -40,11 +40,12 @@ impl<T: Key, H: HashEq<T>> HashTree<T, H> {
         ensures { AnswersNew self.now.eq result (set_same (hash_order T.cmp (H.hash self.now.eq))
             (H.same self.now.eq) value self.now.items) }
     {
-        if self.is_full() && !self.has(&value) {
+        let found = self.has(&value);
+        if self.is_full() && !found {
             let count = self.count();
             return Err(TreeFault::TooLarge { count });
         }
-        Ok(self.with(alloc, value)?)
+        Ok(self.with_found(alloc, value, found)?)
     }
 
     /// The elements without the one that is same to the value. It costs what `add` does.
@@ -91,12 +92,22 @@ impl<T: Key, H: HashEq<T>> HashTree<T, H> {
             self.now.eq)) (H.same self.now.eq) value self.now.items) }
         ensures eq { IfOk result (λ t. t.eq ≡ self.now.eq) }
     {
+        let found = self.has(&value);
+        self.with_found(alloc, value, found)
+    }
+
+    // The same, where it is known whether a same element is present.
+    fn with_found(&self, alloc: Global, value: T, found: bool) -> Result<HashTree<T, H>, Memory>
+        requires { found ≡ has (H.same self.now.eq) value self.now.items }
+        ensures items { IfOk result (λ t. t.items ≡ with_same (hash_order T.cmp (H.hash
+            self.now.eq)) (H.same self.now.eq) value self.now.items) }
+        ensures eq { IfOk result (λ t. t.eq ≡ self.now.eq) }
+    {
         let eq = self.comparer();
         let count = self.count();
         if count == u32::MAX {
             return Err(Memory);
         }
-        let found = self.has(&value);
         let tree = with_value(alloc, self.tree(), value, &eq)?;
         if found {
             return Ok(HashTree::of_tree(tree, count, eq));

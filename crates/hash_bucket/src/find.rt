@@ -49,13 +49,7 @@ pub(crate) fn locate<'a, T: Key>(
     ensures { MatchResult result (λ r. IsBucketAt at.now.hash tree.now.items r.1.now r.0) (λ i.
         IsNoBucketAt at.now.hash tree.now.items i) }
 {
-    match tree.search(at) {
-        Ok(place) => match tree.at(place) {
-            Some(bucket) => Ok((place, bucket)),
-            None => unreachable!(),
-        },
-        Err(place) => Err(place),
-    }
+    tree.locate(at)
 }
 
 // Whether some element of a bucket passes a test.

@@ -4,6 +4,3 @@
 mod weaving;
 
 pub use weaving::merge;
-
-#[cfg(test)]
-mod tests;

@@ -1,5 +1,5 @@
 // The builder of arrays.
-ghost use Rattle.std.specs.Prelude.{◌≡◌, ◌≤◌, Ok, None, Some, IfErr, IfOk, MatchResult, length, slice_get};
+ghost use Rattle.std.specs.Prelude.{◌≡◌, ◌≢◌, ◌≤◌, Ok, None, Some, IfErr, IfOk, MatchResult, length, slice_get};
 ghost use Rattle.imm_base.specs.Lists.{clear, list_add, list_add_range, list_insert, list_remove_at, list_set_item};
 ghost use Rattle.imm_base.specs.Arrays.{new_array_builder, capacity_for, emptied_builder};
 ghost use Rattle.imm_array.specs.Capacity.{Changes, IsFault, capacity_fault, move_fault};
@@ -159,9 +159,10 @@ impl<T: Item> ArrayBuilder<T> {
         Ok(Step::New)
     }
 
-    /// Takes out the element at `index`. O(n).
+    /// Takes out the element at `index`. It takes no memory. O(n).
     pub fn remove_at(&mut self, index: u32) -> Result<Step, ArrayFault>
-        ensures { Changes result (list_remove_at index self.old.contents) self.old self.new }
+        ensures change { Changes result (list_remove_at index self.old.contents) self.old self.new }
+        ensures memory { IfErr result (λ fault. fault ≢ ArrayFault.Memory) }
     {
         let count = self.count();
         if index >= count {
@@ -171,9 +172,10 @@ impl<T: Item> ArrayBuilder<T> {
         Ok(Step::New)
     }
 
-    /// Puts the value in place of the element at `index`. O(1).
+    /// Puts the value in place of the element at `index`. It takes no memory. O(1).
     pub fn set_item(&mut self, index: u32, value: T) -> Result<Step, ArrayFault>
-        ensures { Changes result (list_set_item index value self.old.contents) self.old self.new }
+        ensures change { Changes result (list_set_item index value self.old.contents) self.old self.new }
+        ensures memory { IfErr result (λ fault. fault ≢ ArrayFault.Memory) }
     {
         let count = self.count();
         if index >= count {

@@ -9,6 +9,3 @@ mod fault;
 pub use array::ImmArray;
 pub use builder::ArrayBuilder;
 pub use fault::ArrayFault;
-
-#[cfg(test)]
-mod tests;

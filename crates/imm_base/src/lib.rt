@@ -14,8 +14,6 @@ mod outside;
 mod pair;
 mod pure;
 mod std_streams;
-#[cfg(test)]
-mod tests;
 mod text24;
 mod val;
 

@@ -14,6 +14,3 @@ mod set_relation;
 pub use by_key::ByKey;
 pub use dict::Dict;
 pub use set::ImmHashSet;
-
-#[cfg(test)]
-mod tests;

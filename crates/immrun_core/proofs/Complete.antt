@@ -6,6 +6,7 @@ use Rattle.std.proofs.lemmas.List.{append-nil}
 use Rattle.plain_model.specs.declared.report.Script.{Script}
 use Rattle.script.specs.declared.fault.ParseFault.{ParseFault}
 use Rattle.script.specs.Grammar.{read_script}
+use Rattle.immrun_core.specs.declared.task.Task.{Task}
 use Rattle.immrun_core.specs.declared.status.Status.{Status}
 use Rattle.immrun_core.specs.declared.status.Status.TheVariants.{Done, Usage, Refused, ReadFault, WriteFault, Memory, TooLong}
 use Rattle.immrun_core.specs.Outside.{max_input, SourceEnds, SinkEnds, ReadsAll, ReadsSome}
@@ -63,45 +64,45 @@ too_many q input read e long r =
     let short : length read ≤ max_input = r.short in
     omega arith
 
-accepted : (q : SourceEnds) (s : SinkEnds) (status : Status) → Ended q s status → (status ≡ Usage → ⊥)
+accepted : (task : Task) (q : SourceEnds) (s : SinkEnds) (status : Status) → Ended task q s status
     → (input : List ℕ) (script : Script) → q.left ≡ Some input → length input ≤ max_input → read_script input ≡ Ok script
     → Calm q.faults q.faults_after → Calm s.faults s.faults_after → OrMemory Done status
-accepted q s Done h u input script left short ok calm calm' = inl refl
-accepted q s Usage h u input script left short ok calm calm' = absurd (u refl)
-accepted q s (Refused line code) h u input script left short ok calm calm' = absurd (no_fault q input h.input script _ left h.read ok h.is_fault)
-accepted q s ReadFault h u input script left short ok calm calm' = absurd (calm h.read.cause)
-accepted q s WriteFault h u input script left short ok calm calm' = absurd (calm' h.wrote.cause)
-accepted q s Memory h u input script left short ok calm calm' = inr refl
-accepted q s TooLong h u input script left short ok calm calm' = absurd (too_short q input left short h.read)
+accepted task q s Done h input script left short ok calm calm' = inl refl
+accepted task q s Usage h input script left short ok calm calm' = absurd h
+accepted task q s (Refused line code) h input script left short ok calm calm' = absurd (no_fault q input h.input script _ left h.read ok h.is_fault)
+accepted task q s ReadFault h input script left short ok calm calm' = absurd (calm h.read.cause)
+accepted task q s WriteFault h input script left short ok calm calm' = absurd (calm' h.wrote.cause)
+accepted task q s Memory h input script left short ok calm calm' = inr refl
+accepted task q s TooLong h input script left short ok calm calm' = absurd (too_short q input left short h.read)
 
-refused : (q : SourceEnds) (s : SinkEnds) (status : Status) → Ended q s status → (status ≡ Usage → ⊥)
+refused : (task : Task) (q : SourceEnds) (s : SinkEnds) (status : Status) → Ended task q s status
     → (input : List ℕ) (fault : ParseFault) → q.left ≡ Some input → length input ≤ max_input → read_script input ≡ Err fault
     → Calm q.faults q.faults_after → OrMemory (Refused fault.line fault.code) status
-refused q s Done h u input fault left short err calm =
-    absurd (no_script q input h.reports.input h.reports.script fault left h.reports.read err h.reports.is_script)
-refused q s Usage h u input fault left short err calm = absurd (u refl)
-refused q s (Refused line code) h u input fault left short err calm =
+refused task q s Done h input fault left short err calm =
+    absurd (no_script q input h.output.input h.output.script fault left h.output.read err h.output.is_script)
+refused task q s Usage h input fault left short err calm = absurd h
+refused task q s (Refused line code) h input fault left short err calm =
     let same = same_fault q input h.input fault (record { line = line; code = code }) left h.read err h.is_fault in
     inl (ap (λ (f : ParseFault). Refused f.line f.code) same)
-refused q s ReadFault h u input fault left short err calm = absurd (calm h.read.cause)
-refused q s WriteFault h u input fault left short err calm =
-    absurd (no_script q input h.reports.input h.reports.script fault left h.reports.read err h.reports.is_script)
-refused q s Memory h u input fault left short err calm = inr refl
-refused q s TooLong h u input fault left short err calm = absurd (too_short q input left short h.read)
+refused task q s ReadFault h input fault left short err calm = absurd (calm h.read.cause)
+refused task q s WriteFault h input fault left short err calm =
+    absurd (no_script q input h.output.input h.output.script fault left h.output.read err h.output.is_script)
+refused task q s Memory h input fault left short err calm = inr refl
+refused task q s TooLong h input fault left short err calm = absurd (too_short q input left short h.read)
 
-too_long : (q : SourceEnds) (s : SinkEnds) (status : Status) → Ended q s status → (status ≡ Usage → ⊥)
+too_long : (task : Task) (q : SourceEnds) (s : SinkEnds) (status : Status) → Ended task q s status
     → (input : List ℕ) → q.left ≡ Some input → max_input < length input → Calm q.faults q.faults_after → OrMemory TooLong status
-too_long q s Done h u input left long calm = absurd (too_many q input h.reports.input left long h.reports.read)
-too_long q s Usage h u input left long calm = absurd (u refl)
-too_long q s (Refused line code) h u input left long calm = absurd (too_many q input h.input left long h.read)
-too_long q s ReadFault h u input left long calm = absurd (calm h.read.cause)
-too_long q s WriteFault h u input left long calm = absurd (too_many q input h.reports.input left long h.reports.read)
-too_long q s Memory h u input left long calm = inr refl
-too_long q s TooLong h u input left long calm = inl refl
+too_long task q s Done h input left long calm = absurd (too_many q input h.output.input left long h.output.read)
+too_long task q s Usage h input left long calm = absurd h
+too_long task q s (Refused line code) h input left long calm = absurd (too_many q input h.input left long h.read)
+too_long task q s ReadFault h input left long calm = absurd (calm h.read.cause)
+too_long task q s WriteFault h input left long calm = absurd (too_many q input h.output.input left long h.output.read)
+too_long task q s Memory h input left long calm = inr refl
+too_long task q s TooLong h input left long calm = inl refl
 
-pub is_complete : (q : SourceEnds) (s : SinkEnds) (status : Status) → Ended q s status → (status ≡ Usage → ⊥) → Completes q s status
-is_complete q s status h u = record {
-  accepted = accepted q s status h u;
-  refused = refused q s status h u;
-  too_long = too_long q s status h u;
+pub is_complete : (task : Task) (q : SourceEnds) (s : SinkEnds) (status : Status) → Ended task q s status → Completes q s status
+is_complete task q s status h = record {
+  accepted = accepted task q s status h;
+  refused = refused task q s status h;
+  too_long = too_long task q s status h;
 }

@@ -3,3 +3,4 @@ pub mod Complete
 pub mod StreamSteps
 pub mod Told
 pub mod Readiness
+pub mod Tasks

@@ -1,10 +1,9 @@
 -- What the parser has checked can be done.
-use Rattle.std.proofs.Common.{◌≡◌, ℕ, zero, suc, ◌+◌, ◌<◌, Bool, true, false, ◌&&◌, List, [], ◌∷◌, length, None, Some, Ok, Err, refl, ap, sym, subst, ◌∙◌, arith}
-use Rattle.std.specs.Prelude.{Option, Result, option_map, if◌then◌else◌, map, bytes_eq, slice_get, is_some}
+use Rattle.std.proofs.Common.{◌≡◌, suc, ◌<◌, Bool, true, false, ◌&&◌, List, [], ◌∷◌, length, None, Some, Ok, Err, refl, ap, sym, subst, ◌∙◌, arith}
+use Rattle.std.specs.Prelude.{Option, Result, option_map, if◌then◌else◌, bytes_eq, slice_get}
 use Rattle.std.specs.List.{AllByRecursion}
 use Rattle.std.proofs.lemmas.Slice.Eq.{bytes_eq-Decides}
 use Rattle.imm_base.specs.declared.val.Val.{Val}
-use Rattle.imm_base.specs.declared.val.Edit.TheVariants.{Same, New}
 use Rattle.imm_base.specs.declared.comparers.ValOrder.{ValOrder}
 use Rattle.imm_base.specs.declared.comparers.ValOrder.TheVariants as orders
 use Rattle.imm_base.specs.declared.comparers.ValEq.{ValEq}
@@ -24,27 +23,25 @@ use Rattle.plain_model.specs.declared.commands.Query.{Query}
 use Rattle.plain_model.specs.declared.commands.Command.{Command}
 use Rattle.plain_model.specs.declared.commands.Command.TheVariants as commands
 use Rattle.plain_model.specs.declared.history.Refusal.{Refusal}
-use Rattle.plain_model.specs.declared.report.Answer.{Answer}
 use Rattle.plain_model.specs.declared.report.Answer.TheVariants as answers
 use Rattle.plain_model.specs.declared.report.CellDecl.{CellDecl}
 use Rattle.plain_model.specs.declared.report.Part.{Part}
 use Rattle.plain_model.specs.Comparers.{order_named, equality_named, name_of_order, name_of_equality, comparer_eq, with_comparer, has_comparer}
 use Rattle.plain_model.specs.Kinds.{is_kind, items_of_kind, items_of_op}
 use Rattle.plain_model.specs.Names.{Name, Bindings, get, with_name, contents_kind}
-use Rattle.plain_model.specs.Sources.{is_within, are_within, op_values, query_values, op_with_values, query_with_values}
-use Rattle.plain_model.specs.Plain.{Shape, list_like, stack_like, queue_like, set_like, map_like, shape_of, made, nothing, plain, order_of, same_of, pairs}
+use Rattle.plain_model.specs.Sources.{are_within, op_with_values, query_with_values}
+use Rattle.plain_model.specs.Plain.{Shape, list_like, stack_like, queue_like, set_like, map_like, shape_of, made, nothing, plain}
 use Rattle.plain_model.specs.Queries.{answer, shown}
 use Rattle.plain_model.specs.Locals.{◌>>=◌, Locals, no_locals, Given, gives, bind, bound, collection, as_collection, contents, collection_at, contents_at, source, op_from, query_from, new_given, edited, let_given, rekeyed, shape_rekeyed, pairs_or_present, rekey, rekey_given, ask_given, local}
-use Rattle.locals.specs.Results.{can_run}
 use Rattle.runs.specs.Places.{cell_place, kinds_of, AreApart}
-use Rattle.runs.specs.Needs.{CanDo, CanPublish, CanAnswer, Leaves, BindsRead, IsAnswered, CanDoAll, CanBegin}
+use Rattle.runs.specs.Needs.{CanDo, Leaves, IsAnswered, CanDoAll, CanBegin}
 use Rattle.runs.proofs.OneCell.{made_kind, plain_keeps, edited_kind}
 use Rattle.script_line.specs.Lines.{command_values}
 use Rattle.script.specs.Symbols.{Binding, cell_kind, with_bound}
 use Rattle.script.specs.Commands.{binding}
 use Rattle.script.specs.Commands as script
-use Rattle.script.specs.Ready.{IsChecked, AreReady, AreDistinct, HasFirst}
-use Rattle.script.proofs.Checked.{check_binding, update_checked, read_checked, publish_checked, new_checked, let_checked, rekey_checked, ask_checked, show_checked, HasContents, GivesItems, HasSource}
+use Rattle.script.specs.Ready.{AreReady, AreDistinct, HasFirst}
+use Rattle.script.proofs.Checked.{check_binding, update_checked, read_checked, publish_checked, new_checked, let_checked, rekey_checked, ask_checked, show_checked, HasContents, HasSource}
 
 clash : (b : Bool) → b ≡ true → b ≡ false → ⊥
 clash b t f = cc

@@ -3,10 +3,13 @@ use Rattle.std.specs.Prelude.{◌≡◌, ◌⊎◌, ℕ, ◌+◌, ◌<◌, ◌�
 use Rattle.imm_base.specs.Causes.{Rose}
 use Rattle.plain_model.specs.declared.report.Script.{Script}
 use Rattle.plain_model.specs.declared.report.Report.{Report}
-use Rattle.plain_model.specs.Lawful.{Lawful}
+use Rattle.plain_model.specs.Lawful.{Lawful, upgrade}
 use Rattle.plain_model.specs.Text.{report_text}
 use Rattle.script.specs.declared.fault.ParseFault.{ParseFault}
 use Rattle.script.specs.Grammar.{read_script}
+use Rattle.script.specs.Printing.{canonical_text}
+use Rattle.immrun_core.specs.declared.task.Task.{Task}
+use Rattle.immrun_core.specs.declared.task.Task.TheVariants.{Run, Check}
 use Rattle.immrun_core.specs.declared.word.Word.{Word}
 use Rattle.immrun_core.specs.declared.word.Word.TheVariants.{Short}
 use Rattle.immrun_core.specs.declared.status.Status.{Status}
@@ -14,25 +17,43 @@ use Rattle.immrun_core.specs.declared.status.Status.TheVariants.{Done, Usage, Re
 use Rattle.immrun_core.specs.Outside.{max_input, SourceEnds, SinkEnds, Unread, ReadsAll, ReadsSome, ReadFails, Unwritten, WritesAll, WriteFails}
 use Rattle.immrun_core.specs.Status.{fault_line}
 
--- the words `run 1`
-abbrev pub IsRun : List Word → Type 0
-IsRun words = words ≡ Short (codes "run") ∷ Short (codes "1") ∷ []
+-- the words that ask for a task
+abbrev pub words_for : Task → List Word
+words_for Run = Short (codes "run") ∷ Short (codes "1") ∷ []
+words_for Check = Short (codes "check") ∷ []
+
+-- the words ask for some task
+abbrev pub IsKnown : List Word → Type 0
+IsKnown words = (task : Task) × (words ≡ words_for task)
+
+-- ---- what is written of a script
+
+-- the text of a lawful report of it
+pub record IsReportOf (script : Script) (text : List ℕ) : Type 0 where
+  pub report : Report
+  pub lawful : Lawful script 1 report
+  pub is_text : text ≡ report_text report
+
+-- a run writes a report, and a check the canonical text of the script in the last version
+abbrev pub Gives : Task → Script → List ℕ → Type 0
+Gives Run script text = IsReportOf script text
+Gives Check script text = text ≡ canonical_text (upgrade script)
 
 -- ---- what each status says
 
--- all of the source is a script, and this is a lawful report of it
-pub record Reports (q : SourceEnds) (report : Report) : Type 0 where
+-- all of the source is a script, and the task gives this text of it
+pub record Output (task : Task) (q : SourceEnds) (text : List ℕ) : Type 0 where
   pub input : List ℕ
   pub read : ReadsAll q input
   pub script : Script
   pub is_script : read_script input ≡ Ok script
-  pub lawful : Lawful script 1 report
+  pub gives : Gives task script text
 
--- the text of a lawful report was written
-pub record IsDone (q : SourceEnds) (s : SinkEnds) : Type 0 where
-  pub report : Report
-  pub reports : Reports q report
-  pub wrote : WritesAll s (report_text report)
+-- that text was written
+pub record IsDone (task : Task) (q : SourceEnds) (s : SinkEnds) : Type 0 where
+  pub text : List ℕ
+  pub output : Output task q text
+  pub wrote : WritesAll s text
 
 -- nothing was read or written
 pub record IsUsage (q : SourceEnds) (s : SinkEnds) : Type 0 where
@@ -51,11 +72,11 @@ pub record IsReadFault (q : SourceEnds) (s : SinkEnds) : Type 0 where
   pub read : ReadFails q
   pub unwritten : Unwritten s
 
--- the sink failed, and took less than the whole text of a lawful report
-pub record IsWriteFault (q : SourceEnds) (s : SinkEnds) : Type 0 where
-  pub report : Report
-  pub reports : Reports q report
-  pub wrote : WriteFails s (report_text report)
+-- the sink failed, and took less than the whole of that text
+pub record IsWriteFault (task : Task) (q : SourceEnds) (s : SinkEnds) : Type 0 where
+  pub text : List ℕ
+  pub output : Output task q text
+  pub wrote : WriteFails s text
 
 -- memory ran out before anything was written
 pub record IsMemory (q : SourceEnds) (s : SinkEnds) : Type 0 where
@@ -67,15 +88,15 @@ pub record IsTooLong (q : SourceEnds) (s : SinkEnds) : Type 0 where
   pub read : ReadsSome q (λ n. n ≡ max_input + 1)
   pub unwritten : Unwritten s
 
--- a call that ends with this status did this to the source and the sink
-abbrev pub Ended : SourceEnds → SinkEnds → Status → Type 0
-Ended q s Done = IsDone q s
-Ended q s Usage = IsUsage q s
-Ended q s (Refused line code) = IsRefused q s (record { line = line; code = code })
-Ended q s ReadFault = IsReadFault q s
-Ended q s WriteFault = IsWriteFault q s
-Ended q s Memory = IsMemory q s
-Ended q s TooLong = IsTooLong q s
+-- a task that ends with this status did this to the source and the sink
+abbrev pub Ended : Task → SourceEnds → SinkEnds → Status → Type 0
+Ended task q s Done = IsDone task q s
+Ended task q s Usage = ⊥
+Ended task q s (Refused line code) = IsRefused q s (record { line = line; code = code })
+Ended task q s ReadFault = IsReadFault q s
+Ended task q s WriteFault = IsWriteFault task q s
+Ended task q s Memory = IsMemory q s
+Ended task q s TooLong = IsTooLong q s
 
 -- ---- which status comes
 
@@ -87,7 +108,8 @@ Calm before now = Rose before now → ⊥
 abbrev pub OrMemory : Status → Status → Type 0
 OrMemory expected status = (status ≡ expected) ⊎ (status ≡ Memory)
 
--- What the bytes of a source that does not fail come to: a script is run, unless the sink fails; other bytes are refused; and too many are too many.
+-- What the bytes of a source that does not fail come to: with a script the task is done, unless the
+-- sink fails; other bytes are refused; and too many are too many.
 pub record Completes (q : SourceEnds) (s : SinkEnds) (status : Status) : Type 0 where
   pub accepted : (input : List ℕ) (script : Script) → q.left ≡ Some input → length input ≤ max_input → read_script input ≡ Ok script
       → Calm q.faults q.faults_after → Calm s.faults s.faults_after → OrMemory Done status

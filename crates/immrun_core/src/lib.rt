@@ -7,12 +7,12 @@ mod program;
 mod run;
 mod status;
 mod streams;
-#[cfg(test)]
-mod tests;
+mod task;
 mod word;
 
 pub use plain_model::report_text;
 pub use program::top;
 pub use run::run_one;
 pub use status::Status;
+pub use task::Task;
 pub use word::{Text64, Word};

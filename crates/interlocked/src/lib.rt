@@ -25,6 +25,3 @@ pub use entry::{Entry, Kept};
 pub use logged::Logged;
 pub use queue::QueueCall;
 pub use stack::StackCall;
-
-#[cfg(test)]
-mod tests;

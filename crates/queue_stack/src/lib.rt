@@ -11,6 +11,3 @@ pub use fault::EndFault;
 pub use queue::ImmQueue;
 pub use skew::SkewList;
 pub use stack::ImmStack;
-
-#[cfg(test)]
-mod tests;

@@ -7,14 +7,3 @@ ghost use Rattle.script.specs.RoundTrip.{IsReadAgain};
 pub fn printed_scripts_are_read_again()
     ensures { IsReadAgain }
 {}
-
-#[cfg(test)]
-mod tests {
-    use crate::printed_scripts_are_read_again;
-    use std::test::*;
-
-    #[test]
-    fn the_law_of_printed_scripts_is_called(rt: HostRuntime) {
-        printed_scripts_are_read_again();
-    }
-}

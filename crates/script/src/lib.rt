@@ -18,6 +18,3 @@ pub use laws::printed_scripts_are_read_again;
 pub use plain_model::{Part, Script};
 pub use printing::print;
 pub use upgrading::upgrade;
-
-#[cfg(test)]
-mod tests;

@@ -17,22 +17,3 @@ pub fn upgrade(alloc: Global, script: &Script) -> Result<Script, Memory>
     upgraded.version = Version::Two;
     Ok(upgraded)
 }
-
-#[cfg(test)]
-mod tests {
-    use crate::{Script, print, upgrade};
-    use plain_model::{Listed, Version};
-    use std::test::*;
-
-    #[test]
-    fn an_upgraded_script_has_the_version_2(rt: HostRuntime) -> Result<(), Fail> {
-        let script = Script {
-            version: Version::One,
-            cells: Listed::new(rt.alloc()),
-            parts: Listed::new(rt.alloc()),
-        };
-        let text = print(rt.alloc(), &upgrade(rt.alloc(), &script)?)?;
-        assert_eq!(rt; text.as_slice(), b"immrun 2\n".as_slice());
-        Ok(())
-    }
-}

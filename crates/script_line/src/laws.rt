@@ -6,14 +6,3 @@ ghost use Rattle.script_line.specs.Written.{LinesAreReadAgain};
 pub fn written_lines_are_read_again()
     ensures { LinesAreReadAgain }
 {}
-
-#[cfg(test)]
-mod tests {
-    use crate::written_lines_are_read_again;
-    use std::test::*;
-
-    #[test]
-    fn the_law_of_written_lines_is_called(rt: HostRuntime) {
-        written_lines_are_read_again();
-    }
-}

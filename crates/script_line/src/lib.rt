@@ -20,6 +20,3 @@ pub use codes::{Code, both_or_least};
 pub use laws::written_lines_are_read_again;
 pub use line::{Line, command_values, line_of};
 pub use words::{Words, split_words};
-
-#[cfg(test)]
-mod tests;

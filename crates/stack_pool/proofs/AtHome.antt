@@ -55,7 +55,7 @@ module _ {S : Type 0} where
       (λ (a : (holder ≡ None) × (places ≤ owner.place) × (w ≡ v)). subst (λ (x : View S). NoneLent x) (sym a.2) none)
       (λ (a : (owner.place < places) × (holder ≢ Some owner.number) × ((word : ℕ) × (holder ≡ owner_in word) × (w ≡ found_more v (found Probe owner.place word ∷ [])))).
       subst (λ (x : View S). NoneLent x) (sym a.2.2) none)
-      r
-  refused_none_lent places v w owner (Busy number) r none = subst (λ (x : View S). NoneLent x) (sym r.3.2) none
+      r.1
+  refused_none_lent places v w owner (Busy number) r none = subst (λ (x : View S). NoneLent x) (sym r.4.2) none
 
 pub ruleset at_home = (not_lent, new_none_lent, lent_and_back)

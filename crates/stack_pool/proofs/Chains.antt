@@ -137,5 +137,5 @@ module _ {S : Type 0} where
   refused_counts places v w owner NoNumber r = absurd r
   refused_counts places v w owner (Disposed holder) r = ⊎_elim
       (λ (a : (holder ≡ None) × (places ≤ owner.place) × (w ≡ v)). found_counts v w [] (a.2 ∙ λ i. record v { found = sym (append-nil v.found) i }))
-      (λ (a : (owner.place < places) × (holder ≢ Some owner.number) × ((word : ℕ) × (holder ≡ owner_in word) × (w ≡ found_more v (found Probe owner.place word ∷ [])))). found_counts v w (found Probe owner.place a.2.0 ∷ []) a.2.2) r
-  refused_counts places v w owner (Busy number) r = found_counts v w (found Probe owner.place r.3.0 ∷ []) r.3.2
+      (λ (a : (owner.place < places) × (holder ≢ Some owner.number) × ((word : ℕ) × (holder ≡ owner_in word) × (w ≡ found_more v (found Probe owner.place word ∷ [])))). found_counts v w (found Probe owner.place a.2.0 ∷ []) a.2.2) r.1
+  refused_counts places v w owner (Busy number) r = found_counts v w (found Probe owner.place r.4.0 ∷ []) r.4.2

@@ -3,3 +3,4 @@ pub mod Turning
 pub mod Joins
 pub mod Chains
 pub mod AtHome
+pub mod Mine

@@ -152,17 +152,24 @@ module _ {S : Type 0} where
       × (word ≡ word_of (kept_at v.kept owner.place))
       × (w ≡ found_more v (found Probe owner.place word ∷ []))
 
-  -- what a step of the call found at the handle's place, or that there is no such place
+  -- the seat does not keep the handle's place with its number
+  abbrev pub NotMine : View S → Owner → Type 0
+  NotMine v owner = owner.number ≢ 0 → number_at v owner.place ≢ owner.number
+
+  -- the place is not the seat's own, and this is what a step of the call found there, or that there
+  -- is no such place
   abbrev pub Refused : ℕ → View S → View S → Owner → PoolFault → Type 0
   Refused places v w owner PoolFull = ⊥
   Refused places v w owner NoNumber = ⊥
   Refused places v w owner (Disposed holder) =
-      ((holder ≡ None) × (places ≤ owner.place) × (w ≡ v))
+      NotMine v owner
+      × (((holder ≡ None) × (places ≤ owner.place) × (w ≡ v))
       ⊎ ((owner.place < places) × (holder ≢ Some owner.number)
       × ((word : ℕ) × (holder ≡ owner_in word)
-      × (w ≡ found_more v (found Probe owner.place word ∷ []))))
+      × (w ≡ found_more v (found Probe owner.place word ∷ [])))))
   Refused places v w owner (Busy number) =
-      (number ≡ owner.number) × (number % STRIDE ≢ v.number) × (owner.place < places)
+      NotMine v owner × (number ≡ owner.number) × (number % STRIDE ≢ v.number)
+      × (owner.place < places)
       × ((word : ℕ) × (owner_in word ≡ Some owner.number)
       × (w ≡ found_more v (found Probe owner.place word ∷ [])))
 

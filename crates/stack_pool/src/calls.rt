@@ -18,6 +18,7 @@ fn read_owner(word: u64) -> Option<u64>
 
 /// Looks at the handle's place, and answers what was found there if the place is the handle's and
 /// this seat's.
+#[tactic(auto, using(crate::proofs::Mine::mine))]
 fn find<S>(
     board: &Board<S>,
     chair: &mut Chair<S>,

@@ -13,8 +13,6 @@ mod rule;
 mod seat;
 mod shared;
 mod steps;
-#[cfg(test)]
-mod tests;
 mod view;
 
 pub use fault::{Owner, PoolFault, TakeFault};

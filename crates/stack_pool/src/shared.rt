@@ -99,7 +99,7 @@ impl<S: Drop> SharedPool<S> {
 
     /// Lends the content of the handle's place, which stays this seat's. Refused as `Disposed`
     /// where a step found another owner, and as `Busy` where it found the handle's number, which is
-    /// another seat's.
+    /// another seat's: never where this seat keeps the place with the handle's number.
     pub fn hold(&self, seat: &mut PoolSeat<S>, owner: Owner) -> Result<Held<S>, PoolFault>
         requires table { seat.old.chair.table_id ≡ self.now.table.shared.table_id }
         requires not_lent { NotLent seat.old.chair.me.0 owner }

@@ -15,9 +15,6 @@ ghost use Rattle.worked_examples.specs.LawfulExamples.{LawfulExamples};
 ghost use Rattle.worked_examples.specs.GeneratorExamples.{GeneratorExamples};
 ghost use Rattle.worked_examples.specs.RegistryExamples.{RegistryExample};
 
-#[cfg(test)]
-mod tests;
-
 /// A law on the definitions: each example holds of them. It does nothing when it runs.
 pub fn examples_hold()
     ensures lists { AllByRecursion Holds list_examples }

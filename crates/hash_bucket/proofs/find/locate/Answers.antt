@@ -1,18 +1,10 @@
-use Rattle.std.proofs.Common.{◌∙◌, sym, ap}
-use Rattle.std.specs.Option.{option_copied}
-use Rattle.hash_bucket.proofs.Searches.{sides_ascend, bucket_at, no_bucket_at, nothing_past}
+use Rattle.std.proofs.lemmas.Result.{MatchResult-weaker}
+use Rattle.hash_bucket.proofs.Searches.{sides_ascend, bucket_at, no_bucket_at}
 use Rattle.hash_bucket.proofs.find.locate.Goals as goal
 
-pub search-requires : goal.search-requires
-search-requires g c = sides_ascend c.args.at.now.hash c.args.tree.now.items c.requires
+pub locate-requires : goal.locate-requires
+locate-requires g c = sides_ascend c.args.at.now.hash c.args.tree.now.items c.requires
 
-pub unreachable-requires : goal.unreachable-requires
-unreachable-requires g c =
-    nothing_past c.args.tree.now.items c.in-Ok.place c.in-Ok.ensures.inside (sym c.at.ensures ∙ ap option_copied c.in-None.is)
-
-pub returns-in-Some : goal.returns-in-Some
-returns-in-Some g c =
-    bucket_at c.args.at.now.hash c.args.tree.now.items c.requires c.in-Some.bucket.now c.in-Ok.place c.in-Ok.ensures (sym c.at.ensures ∙ ap option_copied c.in-Some.is)
-
-pub returns-in-Err : goal.returns-in-Err
-returns-in-Err g c = no_bucket_at c.args.at.now.hash c.args.tree.now.items c.requires _ c.in-Err.ensures
+pub returns : goal.returns
+returns g c =
+    MatchResult-weaker c.locate.result c.locate.ensures (λ r found. bucket_at c.args.at.now.hash c.args.tree.now.items c.requires r.1.now r.0 found) (λ i missing. no_bucket_at c.args.at.now.hash c.args.tree.now.items c.requires i missing)

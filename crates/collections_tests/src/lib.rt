@@ -1,0 +1,5 @@
+//! Tests of collections of any kind, apart from the library, which is proved once so.
+#![tactic(auto)]
+
+#[cfg(test)]
+mod tests;

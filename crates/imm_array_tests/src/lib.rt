@@ -1,0 +1,5 @@
+//! Tests of arrays and of their builder, apart from the library, which is proved once so.
+#![tactic(auto)]
+
+#[cfg(test)]
+mod tests;

@@ -1,4 +1,0 @@
-use Rattle.version_slots.proofs.tests.+pin_each.Given as goal
-
-abbrev pub decreases-pin_each : goal.decreases-pin_each
-decreases-pin_each g l = l.count

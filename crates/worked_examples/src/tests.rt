@@ -1,7 +1,0 @@
-use crate::*;
-use std::test::*;
-
-#[test]
-fn the_law_of_the_examples_is_called(rt: HostRuntime) {
-    examples_hold();
-}
