@@ -16,6 +16,7 @@ use Rattle.interlocked.specs.Known.{Known}
 use Rattle.interlocked.specs.Rights.{IsAnswered, IsInstalled}
 use Rattle.registry.specs.declared.requests.Request.{Request}
 use Rattle.registry.specs.declared.requests.Request.TheVariants.{Change, Read}
+use Rattle.registry.specs.declared.requests.Response.{Response}
 use Rattle.registry.specs.declared.requests.Response.TheVariants as responses
 use Rattle.registry.specs.Requests.{Has, IsMade, in_short}
 use Rattle.registry.specs.declared.requests.Seat.{Seat}
@@ -88,7 +89,7 @@ module _ {C X : Type 0} (plain : C → Plain) (meaning : X → PlainCall) where
   pub makes_none : (p q : Known) (request : Request X) → IsOutOfMemory p q → Makes plain meaning request p q None
   makes_none p q request h = record { table = h.still.later.table; number = h.still.later.number; adds = inl (ap added h.still.mine); made = tt }
 
-  pub made_at : (requests : List (Request X)) (index : ℕ) (request : Request X) (s t : Seat C X) → request ≡ get_or requests index request → Makes plain meaning request s.pass t.pass t.response → MadeAt plain meaning requests index s t
+  pub made_at : (requests : List (Request X)) (index : ℕ) (request : Request X) (s t : Seat Known (Response C)) → request ≡ get_or requests index request → Makes plain meaning request s.pass t.pass t.response → MadeAt plain meaning requests index s t
   made_at requests index request s t is h = record {
     made = λ r e. subst (λ (q : Request X). Makes plain meaning q s.pass t.pass t.response) (is ∙ is_at requests index r request e) h;
   }

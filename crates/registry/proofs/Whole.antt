@@ -52,7 +52,7 @@ module _ {C X : Type 0} (plain : C → Plain) (meaning : X → PlainCall) where
     makes = at_longer xs ys h.later (next plain meaning request h.value) h.makes;
   }
 
-module _ {C X : Type 0} (table : TableId) (n : ℕ) (first : Kept) (olds : List (Seat C X)) (start : olds ≡ map seat (new_passes table n first)) where
+module _ {C : Type 0} (table : TableId) (n : ℕ) (first : Kept) (olds : List (Seat Known (Response C))) (start : olds ≡ map seat (new_passes table n first)) where
   abbrev old : ℕ → Known
   old k = new_pass table n first (1 + k)
 
@@ -60,31 +60,31 @@ module _ {C X : Type 0} (table : TableId) (n : ℕ) (first : Kept) (olds : List 
   long = ap length start ∙ (map_length seat (new_passes table n first) ∙ (map_length (new_pass table n first) (counting 1 n) ∙ counts 1 n))
 
   old_at : (k : ℕ) → k < n → Has olds k (seat (old k))
-  old_at k h = ap (λ (l : List (Seat C X)). get_elem? l k) start
+  old_at k h = ap (λ (l : List (Seat Known (Response C))). get_elem? l k) start
       ∙ at_map seat (new_passes table n first) k (old k) (at_map (new_pass table n first) (counting 1 n) k (1 + k) (counted 1 n k h))
 
   -- each seat has a pass of the cell that has made no call
-  pub all_new : All (λ (s : Seat C X). (s.pass.table ≡ table) × (s.pass.last ≡ 0)) olds
+  pub all_new : All (λ (s : Seat Known (Response C)). (s.pass.table ≡ table) × (s.pass.last ≡ 0)) olds
   all_new k d h = let is = is_at olds k (seat (old k)) d (old_at k (let a = long in omega arith)) in
-      subst (λ (s : Seat C X). (s.pass.table ≡ table) × (s.pass.last ≡ 0)) (sym is) (refl, refl)
+      subst (λ (s : Seat Known (Response C)). (s.pass.table ≡ table) × (s.pass.last ≡ 0)) (sym is) (refl, refl)
 
-  module _ (plain : C → Plain) (meaning : X → PlainCall) (requests : List (Request X)) (many : length requests ≡ n) (news : List (Seat C X)) (same : length news ≡ length olds)
-      (each : (k : ℕ) (d : Seat C X) → k < length olds → MadeAt plain meaning requests k (get_or olds k d) (get_or news k d)) where
+  module _ {X : Type 0} (plain : C → Plain) (meaning : X → PlainCall) (requests : List (Request X)) (many : length requests ≡ n) (news : List (Seat Known (Response C))) (same : length news ≡ length olds)
+      (each : (k : ℕ) (d : Seat Known (Response C)) → k < length olds → MadeAt plain meaning requests k (get_or olds k d) (get_or news k d)) where
     -- what the seat of a number did
-    pub did : (k : ℕ) (s : Seat C X) → Has news k s → (request : Request X) × Has requests k request × Makes plain meaning request (old k) s.pass s.response
+    pub did : (k : ℕ) (s : Seat Known (Response C)) → Has news k s → (request : Request X) × Has requests k request × Makes plain meaning request (old k) s.pass s.response
     did k s e =
         let here = in_range news k s e in
         let near : k < n = (let a = same in let b = long in omega arith) in
         let r = some_at requests k (let a = many in omega arith) in
-        let before : (get_or olds k s).pass ≡ old k = ap (λ (t : Seat C X). t.pass) (is_at olds k (seat (old k)) s (old_at k near)) in
+        let before : (get_or olds k s).pass ≡ old k = ap (λ (t : Seat Known (Response C)). t.pass) (is_at olds k (seat (old k)) s (old_at k near)) in
         let after : get_or news k s ≡ s = is_at news k s s e in (
           r.0,
           r.1,
-          subst (λ (t : Known × Seat C X). Makes plain meaning r.0 t.0 t.1.pass t.1.response) (λ i. (before i, after i)) ((each k s (let a = same in omega arith)).made r.0 r.1),
+          subst (λ (t : Known × Seat Known (Response C)). Makes plain meaning r.0 t.0 t.1.pass t.1.response) (λ i. (before i, after i)) ((each k s (let a = same in omega arith)).made r.0 r.1),
         )
 
     abbrev passes : List Known
-    passes = map (λ (s : Seat C X). s.pass) news
+    passes = map (λ (s : Seat Known (Response C)). s.pass) news
 
     abbrev views : List (View Kept)
     views = map (λ (p : Known). p.view) passes
@@ -92,7 +92,7 @@ module _ {C X : Type 0} (table : TableId) (n : ℕ) (first : Kept) (olds : List 
     pub all_of_cell : All (λ (p : Known). p.table ≡ table) passes
     all_of_cell k d h =
         let t = some_at passes k h in
-        let s = map_at (λ (u : Seat C X). u.pass) news k t.0 t.1 in
+        let s = map_at (λ (u : Seat Known (Response C)). u.pass) news k t.0 t.1 in
         ap (λ (p : Known). p.table) (is_at passes k t.0 d t.1 ∙ sym s.2) ∙ (did k s.0 s.1).2.table
 
     pub are_all : AreAll n views
@@ -102,12 +102,12 @@ module _ {C X : Type 0} (table : TableId) (n : ℕ) (first : Kept) (olds : List 
         let one : 1 + k ≡ number = omega arith in (
           k,
           t.0.pass.view,
-          at_map (λ (p : Known). p.view) passes k t.0.pass (at_map (λ (u : Seat C X). u.pass) news k t.0 t.1),
+          at_map (λ (p : Known). p.view) passes k t.0.pass (at_map (λ (u : Seat Known (Response C)). u.pass) news k t.0 t.1),
           (did k t.0 t.1).2.number ∙ one,
         )
 
     module _ (front : Front) (kept : Kept) (whole : EndsWhole first views front kept) (answers : List (Option (Response C)))
-        (came : answers ≡ map (λ (s : Seat C X). s.response) news) where
+        (came : answers ≡ map (λ (s : Seat Known (Response C)). s.response) news) where
       abbrev hist : List (Line Kept)
       hist = whole.ends.hist
 
@@ -115,23 +115,23 @@ module _ {C X : Type 0} (table : TableId) (n : ℕ) (first : Kept) (olds : List 
       value_of l = l.value.value
 
       -- the seat of a view
-      seat_of : (k : ℕ) (v : View Kept) → Has views k v → (s : Seat C X) × Has news k s × (s.pass.view ≡ v)
+      seat_of : (k : ℕ) (v : View Kept) → Has views k v → (s : Seat Known (Response C)) × Has news k s × (s.pass.view ≡ v)
       seat_of k v e =
           let p = map_at (λ (q : Known). q.view) passes k v e in
-          let s = map_at (λ (u : Seat C X). u.pass) news k p.0 p.1 in
+          let s = map_at (λ (u : Seat Known (Response C)). u.pass) news k p.0 p.1 in
           (s.0, s.1, ap (λ (q : Known). q.view) s.2 ∙ p.2)
 
       made_each : (k : ℕ) (request : Request X) (response : Response C) → Has requests k request → Has answers k (Some response) → IsMade plain meaning (values hist) request response
       made_each k request response q r =
-          let given : Has (map (λ (s : Seat C X). s.response) news) k (Some response) = ap (λ (l : List (Option (Response C))). get_elem? l k) (sym came) ∙ r in
-          let s = map_at (λ (u : Seat C X). u.response) news k (Some response) given in
+          let given : Has (map (λ (s : Seat Known (Response C)). s.response) news) k (Some response) = ap (λ (l : List (Option (Response C))). get_elem? l k) (sym came) ∙ r in
+          let s = map_at (λ (u : Seat Known (Response C)). u.response) news k (Some response) given in
           let d = did k s.0 s.1 in
           let request_is : d.0 ≡ request = some-injective d.0 request (sym d.1 ∙ q) in
           let made : IsMade plain meaning (values s.0.pass.view.seen) request response =
           subst (λ (t : Request X × Option (Response C)). MatchOption t.1 (Unit {0}) (λ (x : Response C). IsMade plain meaning (values s.0.pass.view.seen) t.0 x)) (λ i. (request_is i, s.2 i)) d.2.made in
-          let seen = whole.ends.seen k s.0.pass.view (at_map (λ (p : Known). p.view) passes k s.0.pass (at_map (λ (u : Seat C X). u.pass) news k s.0 s.1)) in
+          let seen = whole.ends.seen k s.0.pass.view (at_map (λ (p : Known). p.view) passes k s.0.pass (at_map (λ (u : Seat Known (Response C)). u.pass) news k s.0 s.1)) in
           let all : values hist ≡ values s.0.pass.view.seen ++ values seen.0 = ap values seen.1 ∙ map-append value_of s.0.pass.view.seen seen.0 in
-          subst (λ (h : List Plain). IsMade plain meaning h request response) (sym all) (grown (values s.0.pass.view.seen) (values seen.0) request response made)
+          subst (λ (h : List Plain). IsMade plain meaning h request response) (sym all) (grown plain meaning (values s.0.pass.view.seen) (values seen.0) request response made)
 
       abbrev Step : Plain → Plain → Type 0
       Step value value' = (k : ℕ) × (request : Request X) × Has requests k request × (value' ≡ next plain meaning request value)
@@ -168,7 +168,7 @@ module _ {C X : Type 0} (table : TableId) (n : ℕ) (first : Kept) (olds : List 
             let end : whole.ends.last.value.value ≡ last = ap (λ (k : Kept). k.value) (sym whole.ends.value_is) ∙ sym is in
             (values e.0, ap values e.1 ∙ (map-append value_of e.0 (whole.ends.last ∷ []) ∙ ap (λ (p : Plain). values e.0 ++ p ∷ []) end));
         count =
-            let a = ap length came ∙ map_length (λ (s : Seat C X). s.response) news in
+            let a = ap length came ∙ map_length (λ (s : Seat Known (Response C)). s.response) news in
             let b = same in let c = long in let d = many in omega arith;
         each = made_each;
         steps = λ i value value' e f.

@@ -54,8 +54,8 @@ fn answers(
     Ok(answers)
 }
 
-/// Serves the commands at once, each in a thread of its own, by a cell that begins with this registry.
-/// Answers what it ends with, and the answer to each command.
+/// Serves the commands at once, each in a thread of its own, by a cell that begins with this
+/// registry. Answers what it ends with, and the answer to each command.
 #[tactic(auto, using(crate::proofs::Served::all_served))]
 pub fn serve<R: Threads + Wait + Sync>(
     rt: &R,
@@ -64,7 +64,8 @@ pub fn serve<R: Threads + Wait + Sync>(
     commands: &[Command],
 ) -> Result<(Registry, Vec<Answer>), Memory>
     requires { (0 < length commands.now) × (length commands.now ≤ 8) }
-    ensures { IfOk result (λ t. AreServed (dict_plain registry) (dict_plain t.0) commands.now t.1.items) }
+    ensures { IfOk result (λ t. AreServed (dict_plain registry) (dict_plain t.0)
+        commands.now t.1.items) }
 {
     let requests = requests(alloc, commands)?;
     let (last, responses) = make_all(rt, alloc, registry, requests.as_slice())?;
