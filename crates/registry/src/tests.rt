@@ -1,16 +1,28 @@
 //! Lines and their commands.
 use crate::command::{Command, LineFault, text};
-use std::test::Fail;
+
+fn put(name: &str, address: &str) -> Result<Command, LineFault> {
+    let name = text(name)?;
+    let address = text(address)?;
+    Ok(Command::Put { name, address })
+}
+
+fn drop_of(name: &str) -> Result<Command, LineFault> {
+    let name = text(name)?;
+    Ok(Command::Drop { name })
+}
+
+fn get(name: &str) -> Result<Command, LineFault> {
+    let name = text(name)?;
+    Ok(Command::Get { name })
+}
 
 #[test]
-fn a_line_is_a_command(rt: HostRuntime) -> Result<(), Fail> {
-    let name = text("auth")?;
-    let address = text("10.0.0.5:80")?;
-    assert!(rt; Command::parse("put auth  10.0.0.5:80") == Ok(Command::Put { name, address }));
-    assert!(rt; Command::parse("drop auth") == Ok(Command::Drop { name }));
-    assert!(rt; Command::parse("get auth") == Ok(Command::Get { name }));
+fn a_line_is_a_command(rt: HostRuntime) {
+    assert!(rt; Command::parse("put auth  10.0.0.5:80") == put("auth", "10.0.0.5:80"));
+    assert!(rt; Command::parse("drop auth") == drop_of("auth"));
+    assert!(rt; Command::parse("get auth") == get("auth"));
     assert!(rt; Command::parse("list") == Ok(Command::List));
-    Ok(())
 }
 
 #[test]

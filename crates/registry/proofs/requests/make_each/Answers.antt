@@ -12,10 +12,10 @@ pub unseated-requires-clause-responses : goal.unseated-requires-clause-responses
 unseated-requires-clause-responses g c = (
   c.requires.responses.0,
   let long = seats_long c.args.cell.now c.args.passes.now.items c.requires.passes c.seated-seats.result.items c.seated-seats.ensures.seats in
-  let same = c.responded-seats.ensures.same in
-  let many = c.requires.many in
-  let room = c.requires.responses.1 in
-  omega arith,
+      let same = c.responded-seats.ensures.same in
+      let many = c.requires.many in
+      let room = c.requires.responses.1 in
+      omega arith,
 )
 
 pub returns : goal.returns
