@@ -5,7 +5,6 @@ use Rattle.plain_model.specs.declared.commands.PlainCall.{PlainCall}
 use Rattle.atomic_table.specs.Seated.{TableId}
 use Rattle.version_slots.specs.Cells.{AreAll}
 use Rattle.version_slots.specs.Views.{counting}
-use Rattle.version_slots.specs.declared.tokens.Front.{Front}
 use Rattle.interlocked.specs.declared.entry.Entry.{Entry}
 use Rattle.interlocked.specs.declared.entry.Kept.{Kept}
 use Rattle.interlocked.specs.Known.{Known, Shared}

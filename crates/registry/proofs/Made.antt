@@ -1,11 +1,10 @@
 -- What one request comes to stands in what its pass has seen.
-use Rattle.std.proofs.Common.{◌≡◌, ◌⊎◌, inl, inr, ℕ, suc, ◌+◌, ◌≤◌, Bool, true, false, MatchBool, List, [], ◌∷◌, ◌++◌, Some, None, get_or, unwrap_or, sym, refl, ap, ◌∙◌, subst, arith}
+use Rattle.std.proofs.Common.{◌≡◌, inl, inr, ℕ, suc, Bool, true, false, MatchBool, List, [], ◌∷◌, ◌++◌, Some, None, get_or, unwrap_or, sym, refl, ap, ◌∙◌, subst, arith}
 use mathlib.Core.Option.{some}
-use lib.ListN.{get_elem?}
 use Rattle.plain_model.specs.declared.plain.Plain.{Plain}
 use Rattle.plain_model.specs.declared.commands.PlainCall.{PlainCall}
 use Rattle.plain_model.specs.declared.history.Reply.{Reply}
-use Rattle.plain_model.specs.Cell.{Outcome, cell, after}
+use Rattle.plain_model.specs.Cell.{Outcome, after}
 use Rattle.version_slots.specs.declared.view.Line.{Line}
 use Rattle.version_slots.proofs.Closes.{at_map}
 use Rattle.interlocked.specs.declared.answers.Stamp.{Stamp}

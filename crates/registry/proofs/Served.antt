@@ -1,5 +1,5 @@
 -- What is answered to a command by a cell is what the plain map answers.
-use Rattle.std.proofs.Common.{◌≡◌, ℕ, suc, Bool, true, false, if◌then◌else◌, List, length, map, Option, Some, None, unwrap_or, sym, refl, ap, ◌∙◌, subst, arith, ◌+◌, ◌<◌}
+use Rattle.std.proofs.Common.{◌≡◌, ℕ, Bool, true, false, if◌then◌else◌, List, length, map, Option, Some, None, unwrap_or, sym, refl, ap, ◌∙◌, arith, ◌+◌}
 use mathlib.Core.Option.{some}
 use lib.ListN.{get_elem?}
 use Rattle.imm_base.specs.declared.val.Val.{Val}
@@ -8,13 +8,12 @@ use Rattle.imm_base.specs.Edits.{is_over}
 use Rattle.imm_base.specs.Order.{val_eq}
 use Rattle.imm_dictionary.specs.Mapped.{Mapped}
 use Rattle.plain_model.specs.declared.commands.Transform.TheVariants.{Set}
-use Rattle.plain_model.specs.declared.history.Reply.{Reply}
 use Rattle.plain_model.specs.declared.history.Reply.TheVariants as replies
 use Rattle.plain_model.specs.declared.history.Refusal.TheVariants as refusals
 use Rattle.plain_model.specs.declared.plain.Kind.{Kind}
 use Rattle.plain_model.specs.declared.plain.Kind.TheVariants as kinds
 use Rattle.plain_model.specs.declared.plain.Plain.{Plain}
-use Rattle.plain_model.specs.Cell.{Outcome, add_or_update, after, cell, install_and_reply, is_map, reply_only, try_remove, value_in, where_it_is, with_value}
+use Rattle.plain_model.specs.Cell.{Outcome, add_or_update, install_and_reply, is_map, reply_only, try_remove, value_in, where_it_is, with_value}
 use Rattle.plain_model.specs.Plain.{count, pairs, shape_of}
 use Rattle.version_slots.proofs.Closes.{at_map}
 use Rattle.version_slots.proofs.Rows.{map_at}

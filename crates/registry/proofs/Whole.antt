@@ -1,7 +1,7 @@
 -- What all threads made is one history of the cell.
-use Rattle.std.proofs.Common.{◌≡◌, ◌⊎◌, ⊎_elim, ℕ, zero, suc, ◌+◌, ◌-◌, ◌<◌, ◌≤◌, All, List, [], ◌∷◌, ◌++◌, Some, None, Option, MatchOption, length, map, get_or, unwrap_or, sym, refl, ap, ◌∙◌, subst, arith}
+use Rattle.std.proofs.Common.{◌≡◌, ⊎_elim, ℕ, zero, suc, ◌+◌, ◌-◌, ◌<◌, All, List, [], ◌∷◌, ◌++◌, Some, Option, MatchOption, length, map, get_or, unwrap_or, sym, refl, ap, ◌∙◌, subst, arith}
 use Rattle.std.proofs.lemmas.List.{map-append}
-use mathlib.Core.Option.{some, some-injective, some-ne-none}
+use mathlib.Core.Option.{some-injective, some-ne-none}
 use lib.ListN.{get_elem?}
 use Rattle.plain_model.specs.declared.plain.Plain.{Plain}
 use Rattle.plain_model.specs.declared.commands.PlainCall.{PlainCall}
@@ -10,7 +10,7 @@ use Rattle.atomic_table.specs.Seated.{TableId}
 use Rattle.version_slots.specs.declared.view.Line.{Line}
 use Rattle.version_slots.specs.declared.view.View.{View}
 use Rattle.version_slots.specs.declared.tokens.Front.{Front}
-use Rattle.version_slots.specs.Histories.{first_line, lines_of}
+use Rattle.version_slots.specs.Histories.{first_line}
 use Rattle.version_slots.specs.Views.{counting}
 use Rattle.version_slots.specs.Cells.{AreAll}
 use Rattle.version_slots.proofs.Closes.{at_map}

@@ -1,15 +1,10 @@
 -- What requests to one cell are answered, where threads make them at once.
-use Rattle.std.specs.Prelude.{◌≡◌, ◌⊎◌, ℕ, ◌+◌, ◌≤◌, suc, List, [], ◌∷◌, ◌++◌, length, Option, Some}
+use Rattle.std.specs.Prelude.{◌≡◌, ℕ, ◌+◌, ◌≤◌, suc, List, [], ◌∷◌, ◌++◌, length, Option, Some}
 use mathlib.Core.Option.{some}
 use lib.ListN.{get_elem?}
 use Rattle.plain_model.specs.declared.plain.Plain.{Plain}
 use Rattle.plain_model.specs.declared.commands.PlainCall.{PlainCall}
 use Rattle.plain_model.specs.Cell.{cell, after}
-use Rattle.version_slots.specs.declared.view.Line.{Line}
-use Rattle.version_slots.specs.declared.view.View.{View}
-use Rattle.interlocked.specs.declared.entry.Kept.{Kept}
-use Rattle.interlocked.specs.Entries.{entry, added}
-use Rattle.interlocked.specs.Known.{Known, Knows}
 use Rattle.registry.specs.declared.requests.Request.{Request}
 use Rattle.registry.specs.declared.requests.Request.TheVariants.{Change, Read}
 use Rattle.plain_model.specs.declared.history.Reply.{Reply}

@@ -1,4 +1,4 @@
-use Rattle.std.proofs.Common.{◌≤◌, length, sym, ◌∙◌, arith}
+use Rattle.std.proofs.Common.{sym, ◌∙◌, arith}
 use Rattle.registry.proofs.Closed.{all_made, seats_long, seats_new}
 use Rattle.registry.proofs.requests.make_each.Goals as goal
 

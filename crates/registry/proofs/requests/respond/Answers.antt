@@ -1,7 +1,3 @@
-use Rattle.std.proofs.Common.{Some, sym, subst}
-use Rattle.registry.specs.declared.requests.Request.{Request}
-use Rattle.registry.specs.declared.requests.Response.TheVariants.{Value}
-use Rattle.registry.specs.Seats.{Makes}
 use Rattle.registry.proofs.Made.{makes_read}
 use Rattle.registry.proofs.requests.respond.Goals as goal
 

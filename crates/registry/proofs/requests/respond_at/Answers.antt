@@ -1,5 +1,4 @@
-use Rattle.std.proofs.Common.{rules, sym}
-use Rattle.registry.specs.Seats.{Makes}
+use Rattle.std.proofs.Common.{rules}
 use Rattle.registry.proofs.Made.{made_at}
 use Rattle.registry.proofs.requests.respond_at.Goals as goal
 
