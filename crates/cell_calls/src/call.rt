@@ -27,13 +27,13 @@ pub enum CellCall {
 }
 
 impl CellCall {
-    /// The call of the plain model that it is. O(n), where it brings n values along, and O(n log n)
-    /// where these are a hash set or a dictionary.
-    pub fn plain(&self, alloc: Global) -> Result<PlainCall, Memory>
-        ensures { IfOk result (λ call. call ≡ plain_call self.now) }
+    /// The call of the plain model that it is. O(1), and O(n) for a collection of n elements that is
+    /// published, O(n log n) where that is a hash set or a dictionary.
+    pub fn into_plain(self, alloc: Global) -> Result<PlainCall, Memory>
+        ensures { IfOk result (λ call. call ≡ plain_call self) }
     {
         match self {
-            CellCall::Plain(call) => call.dup(alloc),
+            CellCall::Plain(call) => Ok(call),
             CellCall::Publish(value) => Ok(PlainCall::Publish(value.plain(alloc)?)),
         }
     }

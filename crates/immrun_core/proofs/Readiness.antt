@@ -35,13 +35,13 @@ use Rattle.plain_model.specs.Queries.{answer, shown}
 use Rattle.plain_model.specs.Locals.{◌>>=◌, Locals, no_locals, Given, gives, bind, bound, collection, as_collection, contents, collection_at, contents_at, source, op_from, query_from, new_given, edited, let_given, rekeyed, shape_rekeyed, pairs_or_present, rekey, rekey_given, ask_given, local}
 use Rattle.runs.specs.Places.{cell_place, kinds_of, AreApart}
 use Rattle.runs.specs.Needs.{CanDo, Leaves, IsAnswered, CanDoAll, CanBegin}
-use Rattle.runs.proofs.OneCell.{made_kind, plain_keeps, edited_kind}
+use Rattle.runs.proofs.OneCell.{made_kind, let_kind}
 use Rattle.script_line.specs.Lines.{command_values}
 use Rattle.script.specs.Symbols.{Binding, cell_kind, with_bound}
 use Rattle.script.specs.Commands.{binding}
 use Rattle.script.specs.Commands as script
 use Rattle.script.specs.Ready.{AreReady, AreDistinct, HasFirst}
-use Rattle.script.proofs.Checked.{check_binding, update_checked, read_checked, publish_checked, new_checked, let_checked, rekey_checked, ask_checked, show_checked, HasContents, HasSource}
+use Rattle.script.proofs.Checked.{check_binding, dictionary_checked, stack_checked, queue_checked, update_checked, read_checked, publish_checked, new_checked, let_checked, rekey_checked, ask_checked, show_checked, HasContents, HasSource}
 
 clash : (b : Bool) → b ≡ true → b ≡ false → ⊥
 clash b t f = cc
@@ -288,12 +288,20 @@ both : (a b : Bool) → a ≡ true → b ≡ true → (a && b) ≡ true
 both true b e f = f
 both false b e f = e
 
+-- a call that cells of one kind alone have
+called_goes_on : (cells : List CellDecl) (names : Bindings Class) (c : Command) (b : Option Binding) (s : Locals) (cell : Name) (kind : Kind) → HaveKinds names s → cell_kind cells cell ≡ Some kind → b ≡ None
+    → (slice_get (kinds_of cells) (cell_place cells cell) ≡ Some kind → CanDo cells c s) → ((after : Locals) → Leaves cells c s after → after ≡ s) → CanGoOn cells names c b s
+called_goes_on cells names c b s cell kind have is none can same = record {
+  can = can (has_place cells cell kind is).kind;
+  kinds = λ after leaves. have_same names s after b have (same after leaves) none;
+}
+
 can_go_on : (cells : List CellDecl) (names : Bindings Class) (c : Command) (b : Option Binding) (s : Locals) → HaveKinds names s → binding cells names c ≡ Ok b → are_within (command_values c) ≡ true → CanGoOn cells names c b s
 unfolding binding
 can_go_on cells names (commands.Update cell op) b s have ok within =
     let r = update_checked cells names cell op b ok in
     record {
-      can = ((has_place cells cell r.0 r.1).place, within);
+      can = record { kind = r.0; at = (has_place cells cell r.0 r.1).kind; suits = within };
       kinds = λ after leaves. have_same names s after b have leaves r.3;
     }
 can_go_on cells names (commands.Read cell x) b s have ok within =
@@ -314,6 +322,24 @@ can_go_on cells names (commands.Publish cell x) b s have ok within =
       can = record { value = p.value; is = at_collection s x r.1 p; kind = h.kind ∙ ap (λ (k : Kind). Some k) (kind_same r.0 r.1 r.4 ∙ sym p.kind) };
       kinds = λ after leaves. have_same names s after b have leaves r.5;
     }
+can_go_on cells names (commands.GetOrAdd cell k v) b s have ok within =
+    let r = dictionary_checked cells cell b ok in called_goes_on cells names (commands.GetOrAdd cell k v) b s cell r.0 have r.1 r.2 (λ at. record { kind = r.0; at = at; suits = tt }) (λ after h. h)
+can_go_on cells names (commands.AddOrUpdate cell k v t) b s have ok within =
+    let r = dictionary_checked cells cell b ok in called_goes_on cells names (commands.AddOrUpdate cell k v t) b s cell r.0 have r.1 r.2 (λ at. record { kind = r.0; at = at; suits = tt }) (λ after h. h)
+can_go_on cells names (commands.TryAdd cell k v) b s have ok within =
+    let r = dictionary_checked cells cell b ok in called_goes_on cells names (commands.TryAdd cell k v) b s cell r.0 have r.1 r.2 (λ at. record { kind = r.0; at = at; suits = tt }) (λ after h. h)
+can_go_on cells names (commands.TryUpdate cell k v u) b s have ok within =
+    let r = dictionary_checked cells cell b ok in called_goes_on cells names (commands.TryUpdate cell k v u) b s cell r.0 have r.1 r.2 (λ at. record { kind = r.0; at = at; suits = tt }) (λ after h. h)
+can_go_on cells names (commands.TryRemove cell k) b s have ok within =
+    let r = dictionary_checked cells cell b ok in called_goes_on cells names (commands.TryRemove cell k) b s cell r.0 have r.1 r.2 (λ at. record { kind = r.0; at = at; suits = tt }) (λ after h. h)
+can_go_on cells names (commands.Push cell v) b s have ok within =
+    let r = stack_checked cells cell b ok in called_goes_on cells names (commands.Push cell v) b s cell r.0 have r.1 r.2 (λ at. record { kind = r.0; at = at; suits = tt }) (λ after h. h)
+can_go_on cells names (commands.TryPop cell) b s have ok within =
+    let r = stack_checked cells cell b ok in called_goes_on cells names (commands.TryPop cell) b s cell r.0 have r.1 r.2 (λ at. record { kind = r.0; at = at; suits = tt }) (λ after h. h)
+can_go_on cells names (commands.Enqueue cell v) b s have ok within =
+    let r = queue_checked cells cell b ok in called_goes_on cells names (commands.Enqueue cell v) b s cell r.0 have r.1 r.2 (λ at. record { kind = r.0; at = at; suits = tt }) (λ after h. h)
+can_go_on cells names (commands.TryDequeue cell) b s have ok within =
+    let r = queue_checked cells cell b ok in called_goes_on cells names (commands.TryDequeue cell) b s cell r.0 have r.1 r.2 (λ at. record { kind = r.0; at = at; suits = tt }) (λ after h. h)
 can_go_on cells names (commands.New x kind src from) b s have ok within =
     let r = new_checked cells names x kind src from b ok in
     let vs = source_there names s (items_of_kind kind) src from have r.0 in
@@ -333,7 +359,7 @@ can_go_on cells names (commands.Let y x op from) b s have ok within =
     ap (λ v. v >>= λ q. op_from s op from >>= λ t. Some (let_given y q (plain t q) s)) (at_collection s x r.0 p) ∙ ap (λ v. v >>= λ t. Some (let_given y p.value (plain t p.value) s)) o.1 in
     record {
       can = record { built = within; given = g; is = is };
-      kinds = λ after leaves. have_bound names s after y r.0 (edited p.value (plain o.0 p.value)) b have (edited_kind p.value (plain o.0 p.value) (plain_keeps o.0 p.value) ∙ p.kind)
+      kinds = λ after leaves. have_bound names s after y r.0 (edited p.value (plain o.0 p.value)) b have (let_kind o.0 p.value ∙ p.kind)
           (after_answer (commands.Let y x op from) s after g is leaves) r.4;
     }
 can_go_on cells names (commands.Rekey y x comparer) b s have ok within =

@@ -18,16 +18,18 @@ use Rattle.plain_model.specs.declared.report.CellReport.{CellReport}
 use Rattle.plain_model.specs.declared.report.LocalLine.{LocalLine}
 use Rattle.plain_model.specs.declared.limits.TheConstants.{PUBLISH_LIMIT}
 use Rattle.plain_model.specs.Plain.{count, is_unset}
-use Rattle.plain_model.specs.History.{Numbered, numbered}
+use Rattle.plain_model.specs.History.{Numbered, numbered, probe_of}
 use Rattle.plain_model.specs.Names.{Name}
 use Rattle.plain_model.specs.Locals.{◌>>=◌, Locals, bind, collection, collection_at, local, gives}
-use Rattle.plain_model.specs.Work.{Deed, Done, on_cell, local_line, done_by_call, done_locally, refuse_publish, unless_too_many, call_on, deed_of, line_of, cell_named, value_then, value_read, calls_at, call_at}
+use Rattle.plain_model.specs.Work.{Deed, Done, on_cell, local_line, done_by_call, done_locally, refuse_publish, unless_too_many, call_on, deed_of, line_of, cell_named, value_then, value_read, calls_at, call_at, call_of}
 use Rattle.plain_model.proofs.SetValues.{value_of_set}
+use Rattle.cell_calls.specs.declared.call.CellCall.TheVariants as cells
 use Rattle.locals.specs.Results.{can_run}
 use Rattle.runs.specs.declared.work.Worker.{Worker}
 use Rattle.runs.specs.Places.{cell_place, kinds_of, decls_in, AreApart}
 use Rattle.runs.specs.Notes.{Note, Connects, Makes, IsReported, note_at, notes_at}
-use Rattle.runs.specs.Needs.{Leaves, CanAnswer, CanDo, IsAnswered}
+use Rattle.runs.specs.Calls.{MayCall}
+use Rattle.runs.specs.Needs.{Leaves, CanAnswer, CanCall, CanCallOrAnswer, CanDo, IsAnswered}
 use Rattle.runs.specs.Works.{MatchCalls, AnswersLocally, IsDone}
 
 -- ---- cells by place and by name
@@ -111,7 +113,7 @@ pub matched : (decls : List CellDecl) (name : Name) (n : Note) → AreApart decl
 matched decls name n apart place within k d lt =
     ap (λ b. cons_option (if b then Some (numbered n.line) else None) []) (at_place decls name k d apart (let e = place in omega arith) lt ∙ ap (λ j. eqb j k) place)
 
-pub some_same : (a b : Plain) → Some a ≡ Some b → a ≡ b
+pub some_same : {A : Type 0} (a b : A) → Some a ≡ Some b → a ≡ b
 some_same a b e = cc
 
 -- ---- calls
@@ -189,6 +191,39 @@ line_is_done makes decls s o c l w w' leaves is lines = record {
   leaves = leaves;
   done = λ n reports at stands. is reports n;
 }
+
+-- ---- commands whose arguments alone say the call
+
+-- such a command makes this call, and binds nothing
+pub record MakesCall (c : Command) (name : Name) (call : PlainCall) : Type 0 where
+  pub deed : (reports : List CellReport) (n o : ℕ) (m : Locals) → deed_of reports n o c m ≡ call_on reports n o name call m
+  pub leaves : (decls : List CellDecl) (m : Locals) → Leaves decls c m m
+  pub probe : probe_of call ≡ None
+
+calls_alike : (c : Command) (made call : Name × PlainCall) → Some made ≡ Some call → MakesCall c made.0 made.1 → MakesCall c call.0 call.1
+calls_alike c made call e h = subst (λ (p : Name × PlainCall). MakesCall c p.0 p.1) (some_same made call e) h
+
+pub makes_call : (c : Command) (name : Name) (call : PlainCall) → call_of c ≡ Some (name, call) → MakesCall c name call
+makes_call (commands.Update x op) name call e = calls_alike (commands.Update x op) (x, calls.Update op) (name, call) e (record { deed = λ r n o m. refl; leaves = λ ds m. refl; probe = refl })
+makes_call (commands.GetOrAdd x k v) name call e = calls_alike (commands.GetOrAdd x k v) (x, calls.GetOrAdd k v) (name, call) e (record { deed = λ r n o m. refl; leaves = λ ds m. refl; probe = refl })
+makes_call (commands.AddOrUpdate x k v t) name call e = calls_alike (commands.AddOrUpdate x k v t) (x, calls.AddOrUpdate k v t) (name, call) e (record { deed = λ r n o m. refl; leaves = λ ds m. refl; probe = refl })
+makes_call (commands.TryAdd x k v) name call e = calls_alike (commands.TryAdd x k v) (x, calls.TryAdd k v) (name, call) e (record { deed = λ r n o m. refl; leaves = λ ds m. refl; probe = refl })
+makes_call (commands.TryUpdate x k v u) name call e = calls_alike (commands.TryUpdate x k v u) (x, calls.TryUpdate k v u) (name, call) e (record { deed = λ r n o m. refl; leaves = λ ds m. refl; probe = refl })
+makes_call (commands.TryRemove x k) name call e = calls_alike (commands.TryRemove x k) (x, calls.TryRemove k) (name, call) e (record { deed = λ r n o m. refl; leaves = λ ds m. refl; probe = refl })
+makes_call (commands.Push x v) name call e = calls_alike (commands.Push x v) (x, calls.Push v) (name, call) e (record { deed = λ r n o m. refl; leaves = λ ds m. refl; probe = refl })
+makes_call (commands.TryPop x) name call e = calls_alike (commands.TryPop x) (x, calls.TryPop) (name, call) e (record { deed = λ r n o m. refl; leaves = λ ds m. refl; probe = refl })
+makes_call (commands.Enqueue x v) name call e = calls_alike (commands.Enqueue x v) (x, calls.Enqueue v) (name, call) e (record { deed = λ r n o m. refl; leaves = λ ds m. refl; probe = refl })
+makes_call (commands.TryDequeue x) name call e = calls_alike (commands.TryDequeue x) (x, calls.TryDequeue) (name, call) e (record { deed = λ r n o m. refl; leaves = λ ds m. refl; probe = refl })
+makes_call (commands.AddOrUpdateMade x k make t) name call e =
+    calls_alike (commands.AddOrUpdateMade x k make t) (x, calls.AddOrUpdateMade k make t) (name, call) e (record { deed = λ r n o m. refl; leaves = λ ds m. refl; probe = refl })
+makes_call _ name call e = absurd cc
+
+-- a call that a command can make may be made
+pub may_call : (decls : List CellDecl) (c : Command) (m : Locals) (name : Name) (call : PlainCall) → call_of c ≡ Some (name, call) → CanCallOrAnswer decls (call_of c) c m
+    → MayCall (kinds_of decls) (cell_place decls name) (cells.Plain call)
+may_call decls c m name call e can =
+    let h : CanCall decls name call = subst (λ (x : Option (Name × PlainCall)). CanCallOrAnswer decls x c m) e can in
+    record { kind = h.kind; at = h.at; suits = h.suits; probe = (makes_call c name call e).probe }
 
 -- ---- local commands
 

@@ -30,6 +30,12 @@ kind_at [] i d lt = absurd (omega arith)
 kind_at (x ∷ xs) zero d lt = refl
 kind_at (x ∷ xs) (suc i) d lt = kind_at xs i d (omega arith)
 
+-- the kind that is there is that of the cell
+pub kind_is : (xs : List CellRun) (i : ℕ) (d : CellRun) (k : Kind) → slice_get (map kind_of xs) i ≡ Some k → k ≡ kind_of (get_or xs i d)
+kind_is [] i d k e = absurd cc
+kind_is (x ∷ xs) zero d k e = cc
+kind_is (x ∷ xs) (suc i) d k e = kind_is xs i d k e
+
 -- a kind that is there has a place within
 pub index_of : (xs : List CellRun) (i : ℕ) (k : Kind) → slice_get (map kind_of xs) i ≡ Some k → i < length xs
 index_of [] i k e = absurd cc

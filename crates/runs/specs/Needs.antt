@@ -1,7 +1,9 @@
 -- What commands need, with the names before them.
-use Rattle.std.specs.Prelude.{◌≡◌, ◌<◌, List, [], ◌∷◌, length, true, Some, slice_get}
+use Rattle.std.specs.Prelude.{◌≡◌, ◌<◌, List, [], ◌∷◌, length, true, Option, Some, None, slice_get}
 use Rattle.std.specs.Result.{is_ok}
+use Rattle.plain_model.specs.declared.plain.Kind.{Kind}
 use Rattle.plain_model.specs.declared.plain.Plain.{Plain}
+use Rattle.plain_model.specs.declared.commands.PlainCall.{PlainCall}
 use Rattle.plain_model.specs.declared.commands.Command.{Command}
 use Rattle.plain_model.specs.declared.commands.Command.TheVariants as commands
 use Rattle.plain_model.specs.declared.report.Answer.{Answer}
@@ -9,7 +11,9 @@ use Rattle.plain_model.specs.declared.report.CellDecl.{CellDecl}
 use Rattle.plain_model.specs.Names.{Name}
 use Rattle.plain_model.specs.Kinds.{is_cell_kind}
 use Rattle.plain_model.specs.Plain.{made}
-use Rattle.plain_model.specs.Sources.{is_within, are_within, op_values}
+use Rattle.plain_model.specs.Sources.{is_within}
+use Rattle.plain_model.specs.Work.{call_of}
+use Rattle.cell_calls.specs.Calls.{PlainSuits}
 use Rattle.plain_model.specs.Locals.{Locals, Given, gives, bind, collection, collection_at, local}
 use Rattle.locals.specs.Results.{can_run}
 use Rattle.runs.specs.Places.{cell_place, kinds_of}
@@ -26,11 +30,21 @@ pub record CanAnswer (c : Command) (s : Locals) : Type 0 where
   pub given : Given
   pub is : local c s ≡ Some given
 
+-- the cell is declared, and its sequences stay within 64 bits
+pub record CanCall (decls : List CellDecl) (cell : Name) (call : PlainCall) : Type 0 where
+  pub kind : Kind
+  pub at : slice_get (kinds_of decls) (cell_place decls cell) ≡ Some kind
+  pub suits : PlainSuits call
+
+-- a command that makes this call, or a local one
+abbrev pub CanCallOrAnswer : List CellDecl → Option (Name × PlainCall) → Command → Locals → Type 0
+CanCallOrAnswer decls (Some (cell, call)) c s = CanCall decls cell call
+CanCallOrAnswer decls None c s = CanAnswer c s
+
 abbrev pub CanDo : List CellDecl → Command → Locals → Type 0
-CanDo decls (commands.Update cell op) s = (cell_place decls cell < length decls) × (are_within (op_values op) ≡ true)
 CanDo decls (commands.Read cell x) s = cell_place decls cell < length decls
 CanDo decls (commands.Publish cell x) s = CanPublish decls cell x s
-CanDo decls c s = CanAnswer c s
+CanDo decls c s = CanCallOrAnswer decls (call_of c) c s
 
 -- ---- names after a command
 
@@ -44,11 +58,15 @@ pub record IsAnswered (c : Command) (s after : Locals) : Type 0 where
   pub answer : Answer
   pub is : local c s ≡ Some (gives answer after)
 
+-- a call binds nothing
+abbrev pub CallsOrIsAnswered : Option (Name × PlainCall) → Command → Locals → Locals → Type 0
+CallsOrIsAnswered (Some call) c s after = after ≡ s
+CallsOrIsAnswered None c s after = IsAnswered c s after
+
 abbrev pub Leaves : List CellDecl → Command → Locals → Locals → Type 0
-Leaves decls (commands.Update cell op) s after = after ≡ s
 Leaves decls (commands.Read cell x) s after = BindsRead decls cell x s after
 Leaves decls (commands.Publish cell x) s after = after ≡ s
-Leaves decls c s after = IsAnswered c s after
+Leaves decls c s after = CallsOrIsAnswered (call_of c) c s after
 
 -- each command can be done, whatever the names that those before it leave
 abbrev pub CanDoAll : List CellDecl → List Command → Locals → Type 0

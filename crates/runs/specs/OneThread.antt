@@ -8,15 +8,11 @@ use Rattle.plain_model.specs.declared.history.Line.{Line}
 use Rattle.plain_model.specs.declared.report.CellDecl.{CellDecl}
 use Rattle.plain_model.specs.declared.report.CellReport.{CellReport}
 use Rattle.plain_model.specs.Plain.{first_value}
-use Rattle.plain_model.specs.Cell as model
+use Rattle.plain_model.specs.Cell.{Outcome}
 use Rattle.plain_model.specs.History.{FitsFrom, InOrder, last_value, position_after, probe_of, numbered}
 use Rattle.runs.specs.declared.cell_run.CellRun.{CellRun}
-use Rattle.runs.specs.declared.cell_run.Outcome.{Outcome}
 use Rattle.runs.specs.declared.one_thread.OneThread.{OneThread}
 use Rattle.runs.specs.Notes.{Note}
-
-abbrev pub outcome_of : model.Outcome → Outcome
-outcome_of out = record { installs = out.installs; reply = out.reply }
 
 -- ---- one cell
 

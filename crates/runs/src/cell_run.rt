@@ -1,17 +1,20 @@
 //! A cell during a run on one thread.
-ghost use Rattle.std.specs.Prelude.{◌≡◌, ◌+◌, ◌<◌, ◌^◌, true, false, is_some, IfOk, OnOk, None, Some};
-ghost use Rattle.std.specs.Prelude.{unwrap_or, if◌then◌else◌, ◌++◌, ◌∷◌, []};
+ghost use Rattle.std.specs.Prelude.{◌≡◌, ◌<◌, ◌^◌, true, false, is_some, IfOk, OnOk, None};
+ghost use Rattle.std.specs.Prelude.{unwrap_or, []};
 ghost use Rattle.std.specs.Result.{is_ok};
 ghost use Rattle.plain_model.specs.declared.commands.PlainCall.TheVariants as calls;
-ghost use Rattle.plain_model.specs.Cell.{update, reply_only, install_and_reply};
+ghost use Rattle.plain_model.specs.History.{probe_of};
 ghost use Rattle.plain_model.specs.Kinds.{is_cell_kind};
-ghost use Rattle.plain_model.specs.Plain.{count, is_unset, made};
-ghost use Rattle.plain_model.specs.Sources.{are_within, is_within, op_values};
-ghost use Rattle.runs.specs.OneThread.{outcome_of, after_call, HasCalled, IsSoFar, report_of};
+ghost use Rattle.plain_model.specs.Plain.{is_unset, made};
+ghost use Rattle.plain_model.specs.Sources.{is_within};
+ghost use Rattle.cell_calls.specs.Calls.{Suits, plain_call};
+ghost use Rattle.cell_calls.specs.Outcomes.{installs_of, plain_outcome};
+ghost use Rattle.runs.specs.OneThread.{next_position, after_call, HasCalled, IsSoFar, report_of};
 
+use cell_calls::{CellCall, Outcome};
 use collections::Collection;
 use imm_base::{Dup, Edit, Memory};
-use plain_model::{CellDecl, CellReport, Line, Listed, Plain, PlainCall, PlainOp, Refusal, Reply};
+use plain_model::{CellDecl, CellReport, Line, Listed, Plain, PlainCall};
 use std::alloc::Global;
 
 /// A cell during a run: its declaration, its first value, and its value, position and history so
@@ -24,33 +27,6 @@ pub(crate) struct CellRun {
     // How many calls have installed.
     position: u64,
     lines: Listed<Line>,
-}
-
-/// The value that a call installs, if it does, and its reply.
-#[derive(Drop)]
-pub(crate) struct Outcome {
-    installs: Option<Collection>,
-    reply: Reply,
-}
-
-// What an update by this change comes to.
-fn update_outcome(changed: Result<Edit<Collection>, Refusal>) -> Outcome
-    ensures { result ≡ outcome_of (update changed) }
-{
-    match changed {
-        Ok(Edit::New(value)) => Outcome {
-            installs: Some(value),
-            reply: Reply::Flag(true),
-        },
-        Ok(Edit::Same) => Outcome {
-            installs: None,
-            reply: Reply::Flag(false),
-        },
-        Err(refusal) => Outcome {
-            installs: None,
-            reply: Reply::Refused(refusal),
-        },
-    }
 }
 
 impl CellRun {
@@ -75,23 +51,23 @@ impl CellRun {
         }
     }
 
-    // Installs a value, if there is one, and answers whether there is.
-    fn install(&mut self, installs: Option<Collection>) -> bool
+    // Installs another value, if it is one, and answers whether it is.
+    fn install(&mut self, edit: Edit<Collection>) -> bool
         requires { self.old.position < 2 ^ 63 }
-        ensures answer { result ≡ is_some installs }
-        ensures value { self.new.value ≡ unwrap_or installs self.old.value }
-        ensures position { self.new.position ≡ (if is_some installs then self.old.position + 1 else self.old.position) }
+        ensures answer { result ≡ is_some (installs_of edit) }
+        ensures value { self.new.value ≡ unwrap_or (installs_of edit) self.old.value }
+        ensures position { self.new.position ≡ next_position self.old.position (is_some (installs_of edit)) }
         ensures decl { self.new.decl ≡ self.old.decl }
         ensures first { self.new.first ≡ self.old.first }
         ensures lines { self.new.lines ≡ self.old.lines }
     {
-        match installs {
-            Some(value) => {
+        match edit {
+            Edit::New(value) => {
                 self.value = value;
                 self.position += 1;
                 true
             }
-            None => false,
+            Edit::Same => false,
         }
     }
 
@@ -99,10 +75,10 @@ impl CellRun {
     // given up.
     fn push_line(&mut self, ordinal: u64, call: PlainCall, outcome: Outcome) -> Result<(), Memory>
         requires { self.old.position < 2 ^ 63 }
-        ensures { OnOk result (self.new ≡ after_call ordinal call outcome self.old) }
+        ensures { OnOk result (self.new ≡ after_call ordinal call (plain_outcome outcome) self.old) }
     {
-        let Outcome { installs, reply } = outcome;
-        let installed = self.install(installs);
+        let Outcome { edit, reply } = outcome;
+        let installed = self.install(edit);
         let line = Line {
             position: self.position,
             caller: 1,
@@ -115,22 +91,22 @@ impl CellRun {
         Ok(())
     }
 
-    /// Makes an update.
-    pub fn update(&mut self, alloc: Global, ordinal: u64, op: &PlainOp) -> Result<(), Memory>
+    /// Makes a call.
+    pub fn call(&mut self, alloc: Global, ordinal: u64, call: CellCall) -> Result<(), Memory>
         requires so_far { IsSoFar ordinal self.old }
         requires fits { ordinal < 2 ^ 63 }
-        requires within { are_within (op_values op.now) ≡ true }
-        ensures { OnOk result (HasCalled ordinal (calls.Update op.now) self.old self.new) }
+        requires suits { Suits call self.old.decl.kind }
+        requires probe { probe_of (plain_call call) ≡ None }
+        ensures { OnOk result (HasCalled ordinal (plain_call call) self.old self.new) }
     {
-        // By its clause the value is no unset array.
-        let _count = self.value.count();
-        let outcome = update_outcome(self.value.apply(alloc, op)?);
-        self.push_line(ordinal, PlainCall::Update(op.dup(alloc)?), outcome)?;
+        let outcome = call.apply(alloc, &self.value)?;
+        let call = call.into_plain(alloc)?;
+        self.push_line(ordinal, call, outcome)?;
         Ok(())
     }
 
     /// Reads the value.
-    pub fn read(&mut self, ordinal: u64) -> Result<Collection, Memory>
+    pub fn read(&mut self, alloc: Global, ordinal: u64) -> Result<Collection, Memory>
         requires so_far { IsSoFar ordinal self.old }
         requires fits { ordinal < 2 ^ 63 }
         ensures value { IfOk result (λ v. v ≡ self.old.value) }
@@ -138,27 +114,10 @@ impl CellRun {
         ensures called { OnOk result (HasCalled ordinal calls.Read self.old self.new) }
     {
         let value = self.value.share()?;
-        let outcome = Outcome {
-            installs: None,
-            reply: Reply::Count(self.value.count()),
-        };
-        self.push_line(ordinal, PlainCall::Read, outcome)?;
+        // By its clause the value is no unset array.
+        let _count = value.count();
+        self.call(alloc, ordinal, CellCall::Plain(PlainCall::Read))?;
         Ok(value)
-    }
-
-    /// Publishes a collection of the cell's kind.
-    pub fn publish(&mut self, alloc: Global, ordinal: u64, value: &Collection) -> Result<(), Memory>
-        requires so_far { IsSoFar ordinal self.old }
-        requires fits { ordinal < 2 ^ 63 }
-        requires kind { value.now.kind ≡ self.old.decl.kind }
-        ensures { OnOk result (HasCalled ordinal (calls.Publish value.now) self.old self.new) }
-    {
-        let outcome = Outcome {
-            installs: Some(value.share()?),
-            reply: Reply::Flag(true),
-        };
-        self.push_line(ordinal, PlainCall::Publish(value.plain(alloc)?), outcome)?;
-        Ok(())
     }
 
     /// What is told of the cell after the last call.

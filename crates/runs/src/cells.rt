@@ -4,13 +4,15 @@ ghost use Rattle.std.specs.Prelude.{◌≤◌, IfOk, OnOk, slice_get};
 ghost use Rattle.plain_model.specs.declared.commands.PlainCall.TheVariants as calls;
 ghost use Rattle.plain_model.specs.declared.plain.Kind.{Kind};
 ghost use Rattle.plain_model.specs.Plain.{is_unset};
-ghost use Rattle.plain_model.specs.Sources.{are_within, op_values};
+ghost use Rattle.cell_calls.specs.Calls.{plain_call};
+ghost use Rattle.runs.specs.Calls.{MayCall};
 ghost use Rattle.runs.specs.Notes.{Note, Makes};
 ghost use Rattle.runs.specs.Places.{cell_place};
 
+use cell_calls::CellCall;
 use collections::Collection;
 use imm_base::{Memory, Text24};
-use plain_model::{CellDecl, PlainOp};
+use plain_model::CellDecl;
 use std::alloc::Global;
 
 /// The cells of a run, as one worker calls them, with rising ordinals. A cell is called by its
@@ -25,21 +27,20 @@ pub trait Cells {
     /// What one call does, and its line.
     ghost makes: { Self → Note → Self → Type 0 };
 
-    /// Makes an update.
-    fn update(
+    /// Makes a call.
+    fn call(
         &mut self,
         alloc: Global,
         place: usize,
         ordinal: u64,
-        op: &PlainOp,
+        call: CellCall,
     ) -> Result<(), Memory>
-        requires place { place < length (kinds self.old) }
+        requires may { MayCall (kinds self.old) place call }
         requires ready { ready self.old ordinal }
         requires fits { ordinal < 2 ^ 63 }
-        requires within { are_within (op_values op.now) ≡ true }
         ensures kinds { OnOk result (kinds self.new ≡ kinds self.old) }
         ensures ready { OnOk result (ready self.new (ordinal + 1)) }
-        ensures makes { OnOk result (Makes makes self.old place ordinal (calls.Update op.now) None self.new) };
+        ensures makes { OnOk result (Makes makes self.old place ordinal (plain_call call) None self.new) };
 
     /// Reads the value of a cell.
     fn read(&mut self, alloc: Global, place: usize, ordinal: u64) -> Result<Collection, Memory>
@@ -51,21 +52,6 @@ pub trait Cells {
         ensures kind { IfOk result (λ v. slice_get (kinds self.old) place ≡ Some v.kind) }
         ensures set { IfOk result (λ v. is_unset v.values ≡ false) }
         ensures makes { IfOk result (λ v. Makes makes self.old place ordinal calls.Read (Some v) self.new) };
-
-    /// Publishes a collection of the cell's kind.
-    fn publish(
-        &mut self,
-        alloc: Global,
-        place: usize,
-        ordinal: u64,
-        value: &Collection,
-    ) -> Result<(), Memory>
-        requires place { slice_get (kinds self.old) place ≡ Some value.now.kind }
-        requires ready { ready self.old ordinal }
-        requires fits { ordinal < 2 ^ 63 }
-        ensures kinds { OnOk result (kinds self.new ≡ kinds self.old) }
-        ensures ready { OnOk result (ready self.new (ordinal + 1)) }
-        ensures makes { OnOk result (Makes makes self.old place ordinal (calls.Publish value.now) None self.new) };
 
     // Ordinals may be left out.
     ghost waits: { (cells : Self) (ordinal : ℕ) → ready cells ordinal → ready cells (ordinal + 1) };

@@ -2,6 +2,7 @@
 //! the plain model says.
 #![tactic(auto)]
 
+mod calls;
 mod cell_run;
 mod cells;
 mod one_thread;

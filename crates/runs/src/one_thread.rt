@@ -5,9 +5,9 @@ ghost use Rattle.runs.specs.Waits.{cells_wait};
 
 use crate::cell_run::CellRun;
 use crate::cells::Cells;
+use cell_calls::CellCall;
 use collections::Collection;
 use imm_base::Memory;
-use plain_model::PlainOp;
 use std::alloc::Global;
 
 /// The cells of a run on one thread.
@@ -23,31 +23,20 @@ impl Cells for OneThread {
 
     ghost makes = { CallsOne };
 
-    fn update(
+    fn call(
         &mut self,
         alloc: Global,
         place: usize,
         ordinal: u64,
-        op: &PlainOp,
+        call: CellCall,
     ) -> Result<(), Memory> {
-        self.cells[place].update(alloc, ordinal, op)?;
+        self.cells[place].call(alloc, ordinal, call)?;
         Ok(())
     }
 
-    fn read(&mut self, _: Global, place: usize, ordinal: u64) -> Result<Collection, Memory> {
-        let value = self.cells[place].read(ordinal)?;
+    fn read(&mut self, alloc: Global, place: usize, ordinal: u64) -> Result<Collection, Memory> {
+        let value = self.cells[place].read(alloc, ordinal)?;
         Ok(value)
-    }
-
-    fn publish(
-        &mut self,
-        alloc: Global,
-        place: usize,
-        ordinal: u64,
-        value: &Collection,
-    ) -> Result<(), Memory> {
-        self.cells[place].publish(alloc, ordinal, value)?;
-        Ok(())
     }
 
     ghost waits = { cells_wait };

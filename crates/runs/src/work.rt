@@ -1,24 +1,24 @@
 //! What a worker's commands do, one after another.
 ghost use Rattle.std.specs.Prelude.{◌≡◌, ◌+◌, ◌<◌, ◌≤◌, ◌^◌, true, OnOk, IfOk, Some, None, ◌∷◌, [], ◌++◌};
-ghost use Rattle.std.specs.Prelude.{length, map, nat_lt, slice_get};
+ghost use Rattle.std.specs.Prelude.{length, map, nat_lt};
 ghost use Rattle.std.specs.List.{AllByRecursion};
 ghost use Rattle.plain_model.specs.declared.limits.TheConstants.{COMMANDS_LIMIT, PARTS_LIMIT, PUBLISH_LIMIT};
 ghost use Rattle.plain_model.specs.declared.commands.Command.TheVariants as commands;
 ghost use Rattle.plain_model.specs.Locals.{no_locals};
-ghost use Rattle.plain_model.specs.Sources.{are_within, op_values};
+ghost use Rattle.plain_model.specs.Work.{call_of};
+ghost use Rattle.cell_calls.specs.Calls.{plain_call};
+ghost use Rattle.runs.specs.Calls.{MayCall};
 ghost use Rattle.runs.specs.Places.{AreApart, cell_place, kinds_of};
-ghost use Rattle.runs.specs.Needs.{CanAnswer, CanDo, CanDoAll, CanPublish};
-ghost use Rattle.plain_model.specs.declared.commands.PlainCall.TheVariants as calls;
+ghost use Rattle.runs.specs.Needs.{CanAnswer, CanCallOrAnswer, CanDo, CanDoAll, CanPublish};
 ghost use Rattle.runs.specs.Notes.{Makes};
 ghost use Rattle.runs.specs.Works.{AnswersLocally, IsDone, PartIsDone, WorkIsDone};
 
+use crate::calls::call_of;
 use crate::cells::{Cells, cell_place};
-use collections::Collection;
+use cell_calls::CellCall;
 use imm_base::{Dup, Memory, Text24};
 use locals::Locals;
-use plain_model::{
-    Answer, CellDecl, Command, Listed, LocalLine, PUBLISH_LIMIT, Part, PlainOp, Refusal,
-};
+use plain_model::{Answer, CellDecl, Command, Listed, LocalLine, PUBLISH_LIMIT, Part, Refusal};
 use std::alloc::Global;
 
 /// What a worker has beside its cells: its local names, and its lines so far.
@@ -49,28 +49,26 @@ fn push_line(
     Ok(())
 }
 
-// `update`
-fn update<T: Cells>(
+// A call on the cell of a name.
+fn call_cell<T: Cells>(
     alloc: Global,
     decls: &[CellDecl],
     cells: &mut T,
     ordinal: u64,
-    cell: &Text24,
-    op: &PlainOp,
+    cell: Text24,
+    call: CellCall,
 ) -> Result<(), Memory>
-    requires apart { AreApart decls.now }
     requires kinds { T.kinds cells.old ≡ kinds_of decls.now }
     requires ready { T.ready cells.old ordinal }
     requires fits { ordinal < 2 ^ 63 }
-    requires place { cell_place decls.now cell.now < length decls.now }
-    requires within { are_within (op_values op.now) ≡ true }
+    requires may { MayCall (kinds_of decls.now) (cell_place decls.now cell) call }
     ensures kinds { OnOk result (T.kinds cells.new ≡ kinds_of decls.now) }
     ensures ready { OnOk result (T.ready cells.new (ordinal + 1)) }
-    ensures done { (w : _) → OnOk result (IsDone T.makes decls.now ordinal
-        (commands.Update cell.now op.now) cells.old w cells.new w) }
+    ensures makes { OnOk result (Makes T.makes cells.old (cell_place decls.now cell) ordinal
+        (plain_call call) None cells.new) }
 {
-    let place = cell_place(decls, cell);
-    cells.update(alloc, place, ordinal, op)?;
+    let place = cell_place(decls, &cell);
+    cells.call(alloc, place, ordinal, call)?;
     Ok(())
 }
 
@@ -106,29 +104,6 @@ fn is_too_large(count: u32) -> bool
     count > PUBLISH_LIMIT
 }
 
-// A collection that is published.
-fn publish_value<T: Cells>(
-    alloc: Global,
-    decls: &[CellDecl],
-    cells: &mut T,
-    ordinal: u64,
-    cell: &Text24,
-    value: &Collection,
-) -> Result<(), Memory>
-    requires kinds { T.kinds cells.old ≡ kinds_of decls.now }
-    requires ready { T.ready cells.old ordinal }
-    requires fits { ordinal < 2 ^ 63 }
-    requires kind { slice_get (kinds_of decls.now) (cell_place decls.now cell.now) ≡ Some value.now.kind }
-    ensures kinds { OnOk result (T.kinds cells.new ≡ kinds_of decls.now) }
-    ensures ready { OnOk result (T.ready cells.new (ordinal + 1)) }
-    ensures makes { OnOk result (Makes T.makes cells.old (cell_place decls.now cell.now) ordinal
-        (calls.Publish value.now) None cells.new) }
-{
-    let place = cell_place(decls, cell);
-    cells.publish(alloc, place, ordinal, value)?;
-    Ok(())
-}
-
 // `publish`
 fn publish<T: Cells>(
     alloc: Global,
@@ -160,7 +135,8 @@ fn publish<T: Cells>(
         push_line(alloc, worker, ordinal, command, answer)?;
         return Ok(());
     }
-    publish_value(alloc, decls, cells, ordinal, cell, value)?;
+    let call = CellCall::Publish(value.share()?);
+    call_cell(alloc, decls, cells, ordinal, *cell, call)?;
     Ok(())
 }
 
@@ -175,6 +151,38 @@ fn answer(alloc: Global, worker: &mut Worker, ordinal: u64, command: &Command) -
             Ok(())
         }
         None => unreachable!(),
+    }
+}
+
+// A command that makes a call which its arguments alone say, or a local one.
+fn call_or_answer<T: Cells>(
+    alloc: Global,
+    decls: &[CellDecl],
+    cells: &mut T,
+    worker: &mut Worker,
+    ordinal: u64,
+    command: &Command,
+) -> Result<(), Memory>
+    requires apart { AreApart decls.now }
+    requires kinds { T.kinds cells.old ≡ kinds_of decls.now }
+    requires ready { T.ready cells.old ordinal }
+    requires fits { ordinal < 2 ^ 63 }
+    requires can { CanCallOrAnswer decls.now (call_of command.now) command.now worker.old.names }
+    ensures kinds { OnOk result (T.kinds cells.new ≡ kinds_of decls.now) }
+    ensures ready { OnOk result (T.ready cells.new (ordinal + 1)) }
+    ensures done { OnOk result (IsDone T.makes decls.now ordinal command.now
+        cells.old worker.old cells.new worker.new) }
+{
+    match call_of(alloc, command)? {
+        Some(called) => {
+            let (cell, call) = called;
+            call_cell(alloc, decls, cells, ordinal, cell, CellCall::Plain(call))?;
+            Ok(())
+        }
+        None => {
+            answer(alloc, worker, ordinal, command)?;
+            Ok(())
+        }
     }
 }
 
@@ -198,15 +206,11 @@ pub(crate) fn run_command<T: Cells>(
         cells.old worker.old cells.new worker.new) }
 {
     match command {
-        Command::Update(cell, op) => update(alloc, decls, cells, ordinal, cell, op),
         Command::Read(cell, name) => read(alloc, decls, cells, worker, ordinal, cell, name),
         Command::Publish(cell, name) => publish(
             alloc, decls, cells, worker, ordinal, command, cell, name,
         ),
-        _ => {
-            answer(alloc, worker, ordinal, command)?;
-            Ok(())
-        }
+        _ => call_or_answer(alloc, decls, cells, worker, ordinal, command),
     }
 }
 

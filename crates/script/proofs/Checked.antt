@@ -19,8 +19,10 @@ use Rattle.script_line.specs.declared.codes.Code.{Code}
 use Rattle.script_line.specs.declared.codes.Code.TheVariants as codes
 use Rattle.script_line.specs.Codes.{◌>>=◌, ◌⊗◌, some_or}
 use Rattle.script_line.proofs.Judgements.{bind_ok, both_ok}
+use Rattle.script.specs.declared.commands.Called.{Called}
+use Rattle.script.specs.declared.commands.Called.TheVariants as called
 use Rattle.script.specs.Symbols.{Binding, cell_kind, kind_of_cell, class_of, collection_kind_of, contents_kind_of, require, source_fits}
-use Rattle.script.specs.Commands.{if_fits, collection, binding, keeps_class, rebinds, check}
+use Rattle.script.specs.Commands.{if_fits, is_called, call_binding, collection, binding, keeps_class, rebinds, check}
 use Rattle.script.proofs.Cells.{required}
 
 -- ---- names
@@ -115,6 +117,21 @@ publish_checked cells names cell x b e =
     let p = both_ok (kind_of_cell cells cell) (collection_kind_of names x) r.0 r.1 in
     let f = fits_ok (is_kind r.0.0 r.0.1) None b r.2 in
     (r.0.0, r.0.1, cell_found cells cell r.0.0 p.0, collection_found names x r.0.1 p.1, f.0, f.1)
+
+-- a call that cells of one kind alone have
+call_checked : (cells : List CellDecl) (needed : Called) (cell : Name) (b : Option Binding) → call_binding cells needed cell ≡ Ok b → (k : Kind) × (cell_kind cells cell ≡ Some k) × (b ≡ None)
+call_checked cells needed cell b e =
+    let r = bind_ok (kind_of_cell cells cell) (λ k. if_fits (is_called needed k) None) b e in
+    (r.0, cell_found cells cell r.0 r.1, (fits_ok (is_called needed r.0) None b r.2).1)
+
+pub dictionary_checked : (cells : List CellDecl) (cell : Name) (b : Option Binding) → call_binding cells called.Dict cell ≡ Ok b → (k : Kind) × (cell_kind cells cell ≡ Some k) × (b ≡ None)
+dictionary_checked cells cell b e = call_checked cells called.Dict cell b e
+
+pub stack_checked : (cells : List CellDecl) (cell : Name) (b : Option Binding) → call_binding cells called.Stack cell ≡ Ok b → (k : Kind) × (cell_kind cells cell ≡ Some k) × (b ≡ None)
+stack_checked cells cell b e = call_checked cells called.Stack cell b e
+
+pub queue_checked : (cells : List CellDecl) (cell : Name) (b : Option Binding) → call_binding cells called.Queue cell ≡ Ok b → (k : Kind) × (cell_kind cells cell ≡ Some k) × (b ≡ None)
+queue_checked cells cell b e = call_checked cells called.Queue cell b e
 
 pub new_checked : (cells : List CellDecl) (names : Bindings Class) (x : Name) (kind : Kind) (src : Values) (from : Option Name) (b : Option Binding)
     → binding cells names (commands.New x kind src from) ≡ Ok b → HasSource names (items_of_kind kind) from × (b ≡ collection x kind)

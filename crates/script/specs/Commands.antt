@@ -1,6 +1,7 @@
 -- What a command needs of its names, and what it binds.
 use Rattle.std.specs.Prelude.{List, Bool, true, false, Option, Some, None, Result, Ok, Err}
 use Rattle.plain_model.specs.declared.plain.Kind.{Kind}
+use Rattle.plain_model.specs.declared.plain.Kind.TheVariants as kinds
 use Rattle.plain_model.specs.declared.kinds.ItemKind.TheVariants.{Elements}
 use Rattle.plain_model.specs.declared.commands.Command.{Command}
 use Rattle.plain_model.specs.declared.commands.Command.TheVariants as commands
@@ -13,6 +14,8 @@ use Rattle.plain_model.specs.Names.{Name, Bindings, get, is_alike_class}
 use Rattle.script_line.specs.declared.codes.Code.{Code}
 use Rattle.script_line.specs.declared.codes.Code.TheVariants as codes
 use Rattle.script_line.specs.Codes.{◌>>=◌, ◌⊗◌, some_or}
+use Rattle.script.specs.declared.commands.Called.{Called}
+use Rattle.script.specs.declared.commands.Called.TheVariants as called
 use Rattle.script.specs.Symbols.{Binding, kind_of_cell, collection_kind_of, contents_kind_of, source_fits}
 
 -- what a command binds, where it goes with the kinds
@@ -23,6 +26,21 @@ if_fits false bound = Err codes.Kind
 abbrev pub collection : Name → Kind → Option Binding
 collection x kind = Some (x, classes.Collection kind)
 
+-- ---- calls that cells of one kind alone have
+
+-- with a key on a dictionary, and on a stack and a queue
+abbrev pub is_called : Called → Kind → Bool
+is_called called.Dict (kinds.Dict eq) = true
+is_called called.Stack kinds.Stack = true
+is_called called.Queue kinds.Queue = true
+is_called _ _ = false
+
+-- a call on a cell, which binds nothing
+abbrev pub call_binding : List CellDecl → Called → Name → Result (Option Binding) Code
+call_binding cells needed cell = kind_of_cell cells cell >>= λ k. if_fits (is_called needed k) None
+
+-- ---- commands
+
 -- A row for each command: its names are known and of the class that it needs, what it does goes with their kinds,
 -- and it binds this. Else the least code that applies. The commands without a row are said by no line today.
 unfoldable pub binding : List CellDecl → Bindings Class → Command → Result (Option Binding) Code
@@ -30,6 +48,15 @@ binding cells names (commands.Update cell op) = kind_of_cell cells cell >>= λ k
 binding cells names (commands.Read cell x) = kind_of_cell cells cell >>= λ k. Ok (collection x k)
 binding cells names (commands.Publish cell x) =
     (kind_of_cell cells cell ⊗ collection_kind_of names x) >>= λ (k, l). if_fits (is_kind k l) None
+binding cells names (commands.GetOrAdd cell k v) = call_binding cells called.Dict cell
+binding cells names (commands.AddOrUpdate cell k v t) = call_binding cells called.Dict cell
+binding cells names (commands.TryAdd cell k v) = call_binding cells called.Dict cell
+binding cells names (commands.TryUpdate cell k v c) = call_binding cells called.Dict cell
+binding cells names (commands.TryRemove cell k) = call_binding cells called.Dict cell
+binding cells names (commands.Push cell v) = call_binding cells called.Stack cell
+binding cells names (commands.TryPop cell) = call_binding cells called.Stack cell
+binding cells names (commands.Enqueue cell v) = call_binding cells called.Queue cell
+binding cells names (commands.TryDequeue cell) = call_binding cells called.Queue cell
 binding cells names (commands.New x kind src from) =
     source_fits names (items_of_kind kind) from >>= λ u. Ok (collection x kind)
 binding cells names (commands.Let y x op from) =

@@ -3,7 +3,7 @@
 ghost use Rattle.std.specs.Prelude.{◌≡◌};
 ghost use Rattle.std.specs.Option.{option_copied};
 ghost use Rattle.plain_model.specs.declared.commands.Command.TheVariants as commands;
-ghost use Rattle.script.specs.Commands.{if_fits, collection, binding, keeps_class, rebinds, check};
+ghost use Rattle.script.specs.Commands.{if_fits, is_called, call_binding, collection, binding, keeps_class, rebinds, check};
 
 use crate::symbols::{Binding, collection_kind_of, contents_kind_of, kind_of_cell, source_fits};
 use imm_base::Text24;
@@ -63,6 +63,32 @@ fn publish_binding(
     let kinds = both_or_least(kind_of_cell(cells, cell), collection_kind_of(names, name));
     let (kind, bound) = kinds?;
     if_fits(kind.is_same(bound), None)
+}
+
+/// The cells that a call belongs to, where one kind alone has it.
+#[derive(Clone, Copy)]
+pub(crate) enum Called {
+    Dict,
+    Stack,
+    Queue,
+}
+
+fn is_called(needed: Called, kind: Kind) -> bool
+    ensures { result ≡ is_called needed kind }
+{
+    match (needed, kind) {
+        (Called::Dict, Kind::Dict(_)) => true,
+        (Called::Stack, Kind::Stack) => true,
+        (Called::Queue, Kind::Queue) => true,
+        _ => false,
+    }
+}
+
+fn call_binding(cells: &[CellDecl], needed: Called, cell: &Text24) -> Result<Option<Binding>, Code>
+    ensures { result ≡ call_binding cells.now needed cell.now }
+{
+    let kind = kind_of_cell(cells, cell)?;
+    if_fits(is_called(needed, kind), None)
 }
 
 #[tactic(auto, unfolding(crate::specs::Commands::binding))]
@@ -153,6 +179,15 @@ fn binding(
         Command::Update(cell, op) => update_binding(cells, names, cell, op),
         Command::Read(cell, name) => read_binding(cells, names, cell, name),
         Command::Publish(cell, name) => publish_binding(cells, names, cell, name),
+        Command::GetOrAdd(cell, _, _) => call_binding(cells, Called::Dict, cell),
+        Command::AddOrUpdate(cell, _, _, _) => call_binding(cells, Called::Dict, cell),
+        Command::TryAdd(cell, _, _) => call_binding(cells, Called::Dict, cell),
+        Command::TryUpdate(cell, _, _, _) => call_binding(cells, Called::Dict, cell),
+        Command::TryRemove(cell, _) => call_binding(cells, Called::Dict, cell),
+        Command::Push(cell, _) => call_binding(cells, Called::Stack, cell),
+        Command::TryPop(cell) => call_binding(cells, Called::Stack, cell),
+        Command::Enqueue(cell, _) => call_binding(cells, Called::Queue, cell),
+        Command::TryDequeue(cell) => call_binding(cells, Called::Queue, cell),
         Command::New(name, kind, values, from) => {
             new_binding(cells, names, name, *kind, values, from)
         }

@@ -14,4 +14,5 @@ mod WrittenSources
 mod WrittenContents
 mod WrittenOperations
 mod WrittenQueries
+mod WrittenCalls
 pub mod WrittenLines

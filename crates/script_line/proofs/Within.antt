@@ -10,10 +10,13 @@ use Rattle.plain_model.specs.declared.commands.PlainOp.{PlainOp}
 use Rattle.plain_model.specs.declared.commands.PlainOp.TheVariants as ops
 use Rattle.plain_model.specs.declared.commands.Query.{Query}
 use Rattle.plain_model.specs.declared.commands.Query.TheVariants as queries
+use Rattle.plain_model.specs.declared.commands.Command.{Command}
 use Rattle.plain_model.specs.declared.commands.Command.TheVariants as commands
 use Rattle.plain_model.specs.Sources.{is_within, are_within, op_values, query_values}
 use Rattle.script_line.specs.declared.codes.Code.{Code}
 use Rattle.script_line.specs.declared.codes.Code.TheVariants.{Value}
+use Rattle.script_line.specs.declared.calls.CallWord.{CallWord}
+use Rattle.script_line.specs.declared.calls.CallWord.TheVariants as call_words
 use Rattle.script_line.specs.declared.line.Keyword.{Keyword}
 use Rattle.script_line.specs.declared.line.Keyword.TheVariants as keywords
 use Rattle.script_line.specs.declared.line.Line.{Line}
@@ -36,12 +39,13 @@ use Rattle.script_line.specs.Codes.{◌>>=◌, ◌⊗◌}
 use Rattle.script_line.specs.Values.{value, pair, integer, number}
 use Rattle.script_line.specs.Names.{cell_name, local_name}
 use Rattle.script_line.specs.Comparers.{order, equality}
-use Rattle.script_line.specs.Arguments.{one_and_rest}
+use Rattle.script_line.specs.Arguments.{one, one_and_rest}
 use Rattle.script_line.specs.Sources.{each, items, sequence, seq_words, values_of, source_in_line, source_from, source_of}
 use Rattle.script_line.specs.Contents.{kind_word, contents_of, contents}
 use Rattle.script_line.specs.Operations.{op_word, op_of_words, op}
 use Rattle.script_line.specs.Queries.{query_word, query_of_words, query}
-use Rattle.script_line.specs.Lines.{keyword_of, line_of_words, line_of, line_is_within, IsWithin}
+use Rattle.script_line.specs.Calls.{call_of_words}
+use Rattle.script_line.specs.Lines.{keyword_of, line_of_words, line_of, command_values, line_is_within, IsWithin}
 use Rattle.script_line.proofs.Judgements.{bind_ok, both_ok, made_ok, moved}
 
 abbrev HasWithin : Values → Type 0
@@ -171,6 +175,15 @@ unfolding query
 query-within [] s e = absurd cc
 query-within (w ∷ ws) s e = let b = bind_ok (query_word w) (λ q. query_of_words q ws) s e in query_of_words-within b.0 ws s b.2
 
+-- ---- calls
+
+abbrev CommandHasNone : Command → Type 0
+CommandHasNone c = command_values c ≡ None
+
+call-has_none : (call : CallWord) (ws : List (List ℕ)) (c : Command) → call_of_words call ws ≡ Ok c → CommandHasNone c
+call-has_none call_words.TryPop ws c e = made_ok CommandHasNone (one cell_name ws) commands.TryPop c e (λ n is. refl)
+call-has_none _ ws c e = made_ok CommandHasNone _ _ c e (λ p is. refl)
+
 -- ---- lines
 
 abbrev LineWithin : Line → Type 0
@@ -193,6 +206,8 @@ line_of_words-within keywords.Let ws l e =
 line_of_words-within keywords.Ask ws l e =
     made_ok LineWithin (one_and_rest local_name query ws) (λ p. lines.Command (commands.Ask p.0 p.1.query p.1.from)) l e
     (λ p is. rest_ok local_name query QueryWithin ws p is query-within)
+line_of_words-within (keywords.Call call) ws l e =
+    made_ok LineWithin (call_of_words call ws) lines.Command l e (λ c is. rw (call-has_none call ws c is) refl)
 line_of_words-within _ ws l e = made_ok LineWithin _ _ l e (λ p is. refl)
 
 pub lines_within : {E : Type 0} (r : Result (Result Line Code) E) (first : Keyword) (ws : List (List ℕ)) → IfOk r (λ read. read ≡ line_of_words first ws)

@@ -24,6 +24,7 @@ use Rattle.script_line.proofs.WrittenValues.{cell_name-again, local_name-again}
 use Rattle.script_line.proofs.WrittenContents.{comparer-again, written_contents, contents-again}
 use Rattle.script_line.proofs.WrittenOperations.{written_op, op-again}
 use Rattle.script_line.proofs.WrittenQueries.{written_query, query-again}
+use Rattle.script_line.proofs.WrittenCalls.{call_of_words-again}
 
 -- a row for each first word
 line_of_words-again : (k : Keyword) (ws : Words) (l : Line) → line_of_words k ws ≡ Ok l → AreReadAgain line_of written_line l
@@ -39,6 +40,7 @@ line_of_words-again keywords.Read ws l e =
     row line_of written_line (bytes "read") refl (two cell_name local_name) (λ p. p.0 ∷ p.1 ∷ []) (two-again cell_name (λ n. n) cell_name-again local_name (λ n. n) local_name-again) (λ p. lines.Command (commands.Read p.0 p.1)) (λ a. refl) (λ us. refl) ws l e
 line_of_words-again keywords.Publish ws l e =
     row line_of written_line (bytes "publish") refl (two cell_name local_name) (λ p. p.0 ∷ p.1 ∷ []) (two-again cell_name (λ n. n) cell_name-again local_name (λ n. n) local_name-again) (λ p. lines.Command (commands.Publish p.0 p.1)) (λ a. refl) (λ us. refl) ws l e
+line_of_words-again (keywords.Call call) ws l e = call_of_words-again call ws l e
 line_of_words-again keywords.New ws l e =
     row line_of written_line (bytes "new") refl (one_and_rest local_name (contents scopes.Local)) (λ p. p.0 ∷ written_contents scopes.Local p.1) (one_and_rest-again local_name (λ n. n) local_name-again (contents scopes.Local) (written_contents scopes.Local) (contents-again scopes.Local)) (λ p. lines.Command (commands.New p.0 p.1.kind p.1.source.values p.1.source.from)) (λ a. refl) (λ us. refl) ws l e
 line_of_words-again keywords.Let ws l e =

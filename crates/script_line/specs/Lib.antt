@@ -10,5 +10,6 @@ pub mod Sources
 pub mod Contents
 pub mod Operations
 pub mod Queries
+pub mod Calls
 pub mod Lines
 pub mod Written

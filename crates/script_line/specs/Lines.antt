@@ -7,6 +7,7 @@ use Rattle.plain_model.specs.declared.plain.Values.{Values}
 use Rattle.plain_model.specs.Sources.{is_within, are_within, op_values, query_values}
 use Rattle.script_line.specs.declared.codes.Code.{Code}
 use Rattle.script_line.specs.declared.codes.Code.TheVariants.{Word}
+use Rattle.script_line.specs.declared.calls.CallWord.TheVariants as call_words
 use Rattle.script_line.specs.declared.line.Keyword.{Keyword}
 use Rattle.script_line.specs.declared.line.Keyword.TheVariants as keywords
 use Rattle.script_line.specs.declared.line.Line.{Line}
@@ -20,6 +21,7 @@ use Rattle.script_line.specs.Arguments.{no_word, one, two, three, one_and_rest}
 use Rattle.script_line.specs.Contents.{contents}
 use Rattle.script_line.specs.Operations.{op}
 use Rattle.script_line.specs.Queries.{query}
+use Rattle.script_line.specs.Calls.{call_of_words}
 
 -- the first words; another one is unknown
 abbrev pub keyword_of : List ℕ → Result Keyword Code
@@ -30,6 +32,15 @@ keyword_of = entry (
     (bytes "update", keywords.Update) ∷
     (bytes "read", keywords.Read) ∷
     (bytes "publish", keywords.Publish) ∷
+    (bytes "getoradd", keywords.Call call_words.GetOrAdd) ∷
+    (bytes "addorupdate", keywords.Call call_words.AddOrUpdate) ∷
+    (bytes "tryadd", keywords.Call call_words.TryAdd) ∷
+    (bytes "tryupdate", keywords.Call call_words.TryUpdate) ∷
+    (bytes "tryremove", keywords.Call call_words.TryRemove) ∷
+    (bytes "push", keywords.Call call_words.Push) ∷
+    (bytes "trypop", keywords.Call call_words.TryPop) ∷
+    (bytes "enqueue", keywords.Call call_words.Enqueue) ∷
+    (bytes "trydequeue", keywords.Call call_words.TryDequeue) ∷
     (bytes "new", keywords.New) ∷
     (bytes "let", keywords.Let) ∷
     (bytes "rekey", keywords.Rekey) ∷
@@ -48,6 +59,7 @@ line_of_words keywords.Update ws =
     one_and_rest cell_name (op scopes.Cell) ws >>= λ (c, p). Ok (lines.Command (commands.Update c p.op))
 line_of_words keywords.Read ws = two cell_name local_name ws >>= λ (c, x). Ok (lines.Command (commands.Read c x))
 line_of_words keywords.Publish ws = two cell_name local_name ws >>= λ (c, x). Ok (lines.Command (commands.Publish c x))
+line_of_words (keywords.Call call) ws = call_of_words call ws >>= λ c. Ok (lines.Command c)
 line_of_words keywords.New ws =
     one_and_rest local_name (contents scopes.Local) ws
     >>= λ (x, d). Ok (lines.Command (commands.New x d.kind d.source.values d.source.from))

@@ -2,7 +2,7 @@
 
 ghost use Rattle.std.specs.Prelude.{◌≡◌};
 ghost use Rattle.script_line.specs.Words.{bytes_of};
-ghost use Rattle.script_line.specs.Values.{value, number};
+ghost use Rattle.script_line.specs.Values.{value, integer, number};
 ghost use Rattle.script_line.specs.Names.{cell_name, local_name};
 ghost use Rattle.script_line.specs.Comparers.{order, test_word};
 ghost use Rattle.script_line.specs.Arguments.{no_word, one, two};
@@ -10,7 +10,7 @@ ghost use Rattle.script_line.specs.Arguments.{no_word, one, two};
 use crate::codes::{Code, both_or_least};
 use crate::comparers::{TestWord, order, test_word};
 use crate::names::{cell_name, local_name};
-use crate::values::{number, value};
+use crate::values::{integer, number, value};
 use imm_base::{Text24, Val, ValOrder};
 
 pub(crate) fn no_word(words: &[&[u8]]) -> Result<(), Code>
@@ -27,6 +27,15 @@ pub(crate) fn one_value(words: &[&[u8]]) -> Result<Val, Code>
 {
     match words {
         [v] => value(v),
+        _ => Err(Code::Word),
+    }
+}
+
+pub(crate) fn one_integer(words: &[&[u8]]) -> Result<i64, Code>
+    ensures { result ≡ one integer (bytes_of words.now) }
+{
+    match words {
+        [i] => integer(i),
         _ => Err(Code::Word),
     }
 }
@@ -108,6 +117,24 @@ pub(crate) fn cell_and_local_name(words: &[&[u8]]) -> Result<(Text24, Text24), C
 {
     match words {
         [c, x] => both_or_least(cell_name(c), local_name(x)),
+        _ => Err(Code::Word),
+    }
+}
+
+pub(crate) fn one_cell_name(words: &[&[u8]]) -> Result<Text24, Code>
+    ensures { result ≡ one cell_name (bytes_of words.now) }
+{
+    match words {
+        [c] => cell_name(c),
+        _ => Err(Code::Word),
+    }
+}
+
+pub(crate) fn cell_and_value(words: &[&[u8]]) -> Result<(Text24, Val), Code>
+    ensures { result ≡ two cell_name value (bytes_of words.now) }
+{
+    match words {
+        [c, v] => both_or_least(cell_name(c), value(v)),
         _ => Err(Code::Word),
     }
 }

@@ -13,6 +13,7 @@ ghost use Rattle.script_line.specs.declared.sources.Scope.TheVariants as scopes;
 ghost use Rattle.script_line.specs.Lines.{keyword_of, line_of_words, line_of, IsWithin, command_values};
 
 use crate::arguments::{cell_and_local_name, no_word, one_local_name};
+use crate::calls::{CallWord, call_of_words};
 use crate::codes::{Code, both_or_least};
 use crate::comparers::comparer;
 use crate::contents::{KindWithSource, contents};
@@ -43,6 +44,7 @@ pub(crate) enum Keyword {
     Update,
     Read,
     Publish,
+    Call(CallWord),
     New,
     Let,
     Rekey,
@@ -50,13 +52,22 @@ pub(crate) enum Keyword {
     Show,
 }
 
-const KEYWORDS: [(&[u8], Keyword); 11] = [
+const KEYWORDS: [(&[u8], Keyword); 20] = [
     (b"cell", Keyword::Cell),
     (b"worker", Keyword::Worker),
     (b"end", Keyword::End),
     (b"update", Keyword::Update),
     (b"read", Keyword::Read),
     (b"publish", Keyword::Publish),
+    (b"getoradd", Keyword::Call(CallWord::GetOrAdd)),
+    (b"addorupdate", Keyword::Call(CallWord::AddOrUpdate)),
+    (b"tryadd", Keyword::Call(CallWord::TryAdd)),
+    (b"tryupdate", Keyword::Call(CallWord::TryUpdate)),
+    (b"tryremove", Keyword::Call(CallWord::TryRemove)),
+    (b"push", Keyword::Call(CallWord::Push)),
+    (b"trypop", Keyword::Call(CallWord::TryPop)),
+    (b"enqueue", Keyword::Call(CallWord::Enqueue)),
+    (b"trydequeue", Keyword::Call(CallWord::TryDequeue)),
     (b"new", Keyword::New),
     (b"let", Keyword::Let),
     (b"rekey", Keyword::Rekey),
@@ -202,6 +213,7 @@ fn line_of_words(
         Keyword::Publish => Ok(cell_and_local_name(words).map(|(cell, name)| Line::Command(
             Command::Publish(cell, name),
         ))),
+        Keyword::Call(call) => Ok(call_of_words(call, words).map(Line::Command)),
         Keyword::New => Ok(name_and_contents(alloc, words)?.map(|(name, contents)| Line::Command(
             Command::New(
                 name,

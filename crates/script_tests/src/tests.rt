@@ -15,7 +15,7 @@ fn printed(alloc: Global, text: &[u8]) -> Result<Vec<u8>, ParseError> {
 #[test]
 fn a_canonical_text_is_printed_again(rt: HostRuntime) -> Result<(), Fail> {
     let text =
-        b"immrun 1\ncell AB2 list 1 \"a b\" -9223372036854775808\ncell B smap nocase \"a=b\"=1\nworker\nend\nworker\nread AB2 x2\npublish AB2 x2\nnew x sset reverse seq 0 3\nlet y x union from x\nrekey y y ordinal\nask y count\nend\n".as_slice();
+        b"immrun 1\ncell AB2 list 1 \"a b\" -9223372036854775808\ncell B smap nocase \"a=b\"=1\ncell D dict one\ncell S stack\ncell Q queue\nworker\nend\nworker\nread AB2 x2\npublish AB2 x2\ngetoradd D 1 2\naddorupdate D 1 2 plus -3\ntryupdate D 1 2 \"c d\"\ntryremove D 1\npush S 0\ntrydequeue Q\nnew x sset reverse seq 0 3\nlet y x union from x\nrekey y y ordinal\nask y count\nend\n".as_slice();
     let again = printed(rt.alloc(), text);
     assert_eq!(rt; again.ok().ok_or("the text is a script")?.as_slice(), text);
     Ok(())

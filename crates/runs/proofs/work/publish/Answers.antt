@@ -1,4 +1,4 @@
-use Rattle.std.proofs.Common.{◌≡◌, refl, ap, sym, ◌∙◌, ◌∷◌, [], ◌++◌, Some, false, true, ℕ}
+use Rattle.std.proofs.Common.{◌≡◌, refl, ap, sym, subst, ◌∙◌, ◌∷◌, [], ◌++◌, None, Some, false, true, ℕ}
 use Rattle.std.specs.Prelude.{nat_lt}
 use Rattle.std.specs.Option.{option_copied}
 use Rattle.plain_model.specs.declared.limits.TheConstants.{PUBLISH_LIMIT}
@@ -11,16 +11,19 @@ use Rattle.plain_model.specs.declared.report.LocalLine.{LocalLine}
 use Rattle.plain_model.specs.Plain.{count}
 use Rattle.plain_model.specs.Locals.{collection_at}
 use Rattle.plain_model.specs.Work.{local_line}
+use Rattle.runs.specs.Notes.{Makes}
+use Rattle.runs.specs.Places.{cell_place}
 use Rattle.runs.specs.Works.{refused_line}
 use Rattle.runs.proofs.Deeds.{call_is_done, line_is_done, published, refused, kind_within, some_same}
 use Rattle.runs.proofs.work.publish.Goals as goal
 
-pub publish_value-requires-clause-kind : goal.publish_value-requires-clause-kind
-publish_value-requires-clause-kind g c =
+pub call_cell-requires-clause-may : goal.call_cell-requires-clause-may
+call_cell-requires-clause-may g c =
     let can = c.requires.can in
     let p = c.in-Some.value.now in
     let is : collection_at c.args.worker.now.names c.args.name.now ≡ Some p = sym c.collection.ensures ∙ ap option_copied c.in-Some.is in
-    can.kind ∙ ap (λ (v : Plain). Some v.kind) (some_same can.value p (sym can.is ∙ is))
+    let same : p ≡ can.value = some_same p can.value (sym is ∙ can.is) in
+    record { kind = can.value.kind; at = can.kind; suits = ap (λ (v : Plain). v.kind) (c.in_ok-share.ensures ∙ same); probe = refl }
 
 pub returns-clause-done : goal.returns-clause-done
 returns-clause-done g c =
@@ -30,9 +33,11 @@ returns-clause-done g c =
     let p = c.in-Some.value.now in
     let is : collection_at m x ≡ Some p = sym c.collection.ensures ∙ ap option_copied c.in-Some.is in
     let small : nat_lt PUBLISH_LIMIT (count p.values) ≡ false = ap (nat_lt PUBLISH_LIMIT) (sym c.count-count.ensures.count) ∙ (sym c.is_too_large.ensures ∙ c.if-is_too_large.false) in
-    call_is_done g.T.Cells.makes c.args.decls.now c.requires.apart c.args.cells.now c.publish_value.new.cells c.args.cell.now c.args.ordinal
+    let place = cell_place c.args.decls.now c.args.cell.now in
+    let made = subst (λ (v : Plain). Makes g.T.Cells.makes c.args.cells.now place c.args.ordinal (calls.Publish v) None c.call_cell.new.cells) c.in_ok-share.ensures c.in_ok-call_cell.ensures.makes in
+    call_is_done g.T.Cells.makes c.args.decls.now c.requires.apart c.args.cells.now c.call_cell.new.cells c.args.cell.now c.args.ordinal
     (commands.Publish c.args.cell.now x) (calls.Publish p) c.args.worker.now c.args.worker.now refl refl (published x c.args.cell.now p c.args.ordinal m is small)
-    (kind_within c.args.decls.now c.args.cell.now can.value.kind can.kind) c.in_ok-publish_value.ensures.makes
+    (kind_within c.args.decls.now c.args.cell.now can.value.kind can.kind) made
 
 pub returns-then-is_too_large-clause-done : goal.returns-then-is_too_large-clause-done
 returns-then-is_too_large-clause-done g c =

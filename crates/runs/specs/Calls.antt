@@ -1,0 +1,13 @@
+-- Which calls may be made on the cells of a run.
+use Rattle.std.specs.Prelude.{◌≡◌, ℕ, List, Some, None, slice_get}
+use Rattle.plain_model.specs.declared.plain.Kind.{Kind}
+use Rattle.plain_model.specs.History.{probe_of}
+use Rattle.cell_calls.specs.declared.call.CellCall.{CellCall}
+use Rattle.cell_calls.specs.Calls.{Suits, plain_call}
+
+-- a call that suits the kind of the cell at a place, and in which no factory runs
+pub record MayCall (kinds : List Kind) (place : ℕ) (call : CellCall) : Type 0 where
+  pub kind : Kind
+  pub at : slice_get kinds place ≡ Some kind
+  pub suits : Suits call kind
+  pub probe : probe_of (plain_call call) ≡ None
