@@ -1,5 +1,6 @@
 -- The first keys and the first values of pairs.
-use Rattle.std.proofs.Common.{◌≡◌, List, take, length}
+use Rattle.std.proofs.Common.{◌≡◌, List, [], ◌∷◌, take, length, refl, ap}
+use Rattle.std.specs.List.{zip}
 use Rattle.std.specs.Prelude.{map}
 use Rattle.std.proofs.lemmas.List.{take-map, length-map}
 use Rattle.imm_base.specs.declared.val.Val.{Val}
@@ -21,5 +22,10 @@ count_keys m = length-map m (λ e. e.0)
 
 pub count_values : (m : Entries Val Val) → length (map (λ e. e.1) m) ≡ length m
 count_values m = length-map m (λ e. e.1)
+
+-- the keys and the values of pairs, side by side again
+pub zipped_again : (m : Entries Val Val) → zip (map (λ e. e.0) m) (map (λ e. e.1) m) ≡ m
+zipped_again [] = refl
+zipped_again (e ∷ m) = ap (λ es. e ∷ es) (zipped_again m)
 
 pub ruleset projections = (first_entries, first_keys, first_values, count_keys, count_values)

@@ -6,6 +6,7 @@ mod array;
 mod collection;
 mod dict;
 mod elements;
+mod frozen;
 mod hash_set;
 mod list;
 mod of_kind;
@@ -15,4 +16,5 @@ mod sorted_set;
 mod stack;
 
 pub use collection::Collection;
+pub use frozen::{FrozenCollection, frozen_answers};
 pub use of_kind::{Changed, Judged};

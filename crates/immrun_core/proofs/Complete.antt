@@ -7,10 +7,11 @@ use Rattle.plain_model.specs.declared.report.Script.{Script}
 use Rattle.script.specs.declared.fault.ParseFault.{ParseFault}
 use Rattle.script.specs.Grammar.{read_script}
 use Rattle.immrun_core.specs.declared.task.Task.{Task}
+use Rattle.immrun_core.specs.declared.task.Task.TheVariants.{Run, Check, Gen}
 use Rattle.immrun_core.specs.declared.status.Status.{Status}
 use Rattle.immrun_core.specs.declared.status.Status.TheVariants.{Done, Usage, Refused, ReadFault, WriteFault, Memory, TooLong}
 use Rattle.immrun_core.specs.Outside.{max_input, SourceEnds, SinkEnds, ReadsAll, ReadsSome}
-use Rattle.immrun_core.specs.Top.{Ended, Completes, Calm, OrMemory}
+use Rattle.immrun_core.specs.Top.{IsRead, HasScript, ReadsUntil, Stops, Output, Ended, ReadingCompletes, Completes, Calm, OrMemory}
 
 -- what was read to the end is all that there was
 all_read : (q : SourceEnds) (input read : List ℕ) → q.left ≡ Some input → ReadsAll q read → input ≡ read
@@ -64,45 +65,84 @@ too_many q input read e long r =
     let short : length read ≤ max_input = r.short in
     omega arith
 
-accepted : (task : Task) (q : SourceEnds) (s : SinkEnds) (status : Status) → Ended task q s status
+-- ---- tasks that read their script
+
+record Reads (task : Task) (q : SourceEnds) : Type 0 where
+  pub has : (script : Script) → HasScript task q script → IsRead q script
+  pub stops : (status : Status) → Stops task q status → ReadsUntil q status
+
+run_reads : (q : SourceEnds) → Reads Run q
+run_reads q = record { has = λ script has. has; stops = λ status stops. stops }
+
+check_reads : (q : SourceEnds) → Reads Check q
+check_reads q = record { has = λ script has. has; stops = λ status stops. stops }
+
+accepted : (task : Task) (q : SourceEnds) (s : SinkEnds) → Reads task q → (status : Status) → Ended task q s status
     → (input : List ℕ) (script : Script) → q.left ≡ Some input → length input ≤ max_input → read_script input ≡ Ok script
     → Calm q.faults q.faults_after → Calm s.faults s.faults_after → OrMemory Done status
-accepted task q s Done h input script left short ok calm calm' = inl refl
-accepted task q s Usage h input script left short ok calm calm' = absurd h
-accepted task q s (Refused line code) h input script left short ok calm calm' = absurd (no_fault q input h.input script _ left h.read ok h.is_fault)
-accepted task q s ReadFault h input script left short ok calm calm' = absurd (calm h.read.cause)
-accepted task q s WriteFault h input script left short ok calm calm' = absurd (calm' h.wrote.cause)
-accepted task q s Memory h input script left short ok calm calm' = inr refl
-accepted task q s TooLong h input script left short ok calm calm' = absurd (too_short q input left short h.read)
+accepted task q s reads Done h input script left short ok calm calm' = inl refl
+accepted task q s reads Usage h input script left short ok calm calm' = absurd (reads.stops Usage h.stops)
+accepted task q s reads (Refused line code) h input script left short ok calm calm' =
+    let r = reads.stops (Refused line code) h.stops in absurd (no_fault q input r.input script _ left r.read ok r.is_fault)
+accepted task q s reads ReadFault h input script left short ok calm calm' = let r = reads.stops ReadFault h.stops in absurd (calm r.cause)
+accepted task q s reads WriteFault h input script left short ok calm calm' = absurd (calm' h.wrote.cause)
+accepted task q s reads Memory h input script left short ok calm calm' = inr refl
+accepted task q s reads TooLong h input script left short ok calm calm' = absurd (too_short q input left short (reads.stops TooLong h.stops))
 
-refused : (task : Task) (q : SourceEnds) (s : SinkEnds) (status : Status) → Ended task q s status
+no_refusal : (task : Task) (q : SourceEnds) → Reads task q → (text : List ℕ) → Output task q text
+    → (input : List ℕ) (fault : ParseFault) → q.left ≡ Some input → read_script input ≡ Err fault → ⊥
+no_refusal task q reads text output input fault left err =
+    let r = reads.has output.script output.has in no_script q input r.input output.script fault left r.read err r.is_script
+
+refused : (task : Task) (q : SourceEnds) (s : SinkEnds) → Reads task q → (status : Status) → Ended task q s status
     → (input : List ℕ) (fault : ParseFault) → q.left ≡ Some input → length input ≤ max_input → read_script input ≡ Err fault
     → Calm q.faults q.faults_after → OrMemory (Refused fault.line fault.code) status
-refused task q s Done h input fault left short err calm =
-    absurd (no_script q input h.output.input h.output.script fault left h.output.read err h.output.is_script)
-refused task q s Usage h input fault left short err calm = absurd h
-refused task q s (Refused line code) h input fault left short err calm =
-    let same = same_fault q input h.input fault (record { line = line; code = code }) left h.read err h.is_fault in
+refused task q s reads Done h input fault left short err calm = absurd (no_refusal task q reads h.text h.output input fault left err)
+refused task q s reads Usage h input fault left short err calm = absurd (reads.stops Usage h.stops)
+refused task q s reads (Refused line code) h input fault left short err calm =
+    let r = reads.stops (Refused line code) h.stops in
+    let same = same_fault q input r.input fault (record { line = line; code = code }) left r.read err r.is_fault in
     inl (ap (λ (f : ParseFault). Refused f.line f.code) same)
-refused task q s ReadFault h input fault left short err calm = absurd (calm h.read.cause)
-refused task q s WriteFault h input fault left short err calm =
-    absurd (no_script q input h.output.input h.output.script fault left h.output.read err h.output.is_script)
-refused task q s Memory h input fault left short err calm = inr refl
-refused task q s TooLong h input fault left short err calm = absurd (too_short q input left short h.read)
+refused task q s reads ReadFault h input fault left short err calm = let r = reads.stops ReadFault h.stops in absurd (calm r.cause)
+refused task q s reads WriteFault h input fault left short err calm = absurd (no_refusal task q reads h.text h.output input fault left err)
+refused task q s reads Memory h input fault left short err calm = inr refl
+refused task q s reads TooLong h input fault left short err calm = absurd (too_short q input left short (reads.stops TooLong h.stops))
 
-too_long : (task : Task) (q : SourceEnds) (s : SinkEnds) (status : Status) → Ended task q s status
+no_output : (task : Task) (q : SourceEnds) → Reads task q → (text : List ℕ) → Output task q text
+    → (input : List ℕ) → q.left ≡ Some input → max_input < length input → ⊥
+no_output task q reads text output input left long =
+    let r = reads.has output.script output.has in too_many q input r.input left long r.read
+
+too_long : (task : Task) (q : SourceEnds) (s : SinkEnds) → Reads task q → (status : Status) → Ended task q s status
     → (input : List ℕ) → q.left ≡ Some input → max_input < length input → Calm q.faults q.faults_after → OrMemory TooLong status
-too_long task q s Done h input left long calm = absurd (too_many q input h.output.input left long h.output.read)
-too_long task q s Usage h input left long calm = absurd h
-too_long task q s (Refused line code) h input left long calm = absurd (too_many q input h.input left long h.read)
-too_long task q s ReadFault h input left long calm = absurd (calm h.read.cause)
-too_long task q s WriteFault h input left long calm = absurd (too_many q input h.output.input left long h.output.read)
-too_long task q s Memory h input left long calm = inr refl
-too_long task q s TooLong h input left long calm = inl refl
+too_long task q s reads Done h input left long calm = absurd (no_output task q reads h.text h.output input left long)
+too_long task q s reads Usage h input left long calm = absurd (reads.stops Usage h.stops)
+too_long task q s reads (Refused line code) h input left long calm =
+    let r = reads.stops (Refused line code) h.stops in absurd (too_many q input r.input left long r.read)
+too_long task q s reads ReadFault h input left long calm = let r = reads.stops ReadFault h.stops in absurd (calm r.cause)
+too_long task q s reads WriteFault h input left long calm = absurd (no_output task q reads h.text h.output input left long)
+too_long task q s reads Memory h input left long calm = inr refl
+too_long task q s reads TooLong h input left long calm = inl refl
 
-pub is_complete : (task : Task) (q : SourceEnds) (s : SinkEnds) (status : Status) → Ended task q s status → Completes q s status
-is_complete task q s status h = record {
-  accepted = accepted task q s status h;
-  refused = refused task q s status h;
-  too_long = too_long task q s status h;
+reading_completes : (task : Task) (q : SourceEnds) (s : SinkEnds) (status : Status) → Reads task q → Ended task q s status → ReadingCompletes q s status
+reading_completes task q s status reads h = record {
+  accepted = accepted task q s reads status h;
+  refused = refused task q s reads status h;
+  too_long = too_long task q s reads status h;
 }
+
+-- ---- each task
+
+generated_completes : (n : ℕ) (q : SourceEnds) (s : SinkEnds) (status : Status) → Ended (Gen n) q s status → Calm s.faults s.faults_after → OrMemory Done status
+generated_completes n q s Done h calm = inl refl
+generated_completes n q s Usage h calm = absurd h.stops
+generated_completes n q s (Refused line code) h calm = absurd h.stops
+generated_completes n q s ReadFault h calm = absurd h.stops
+generated_completes n q s WriteFault h calm = absurd (calm h.wrote.cause)
+generated_completes n q s Memory h calm = inr refl
+generated_completes n q s TooLong h calm = absurd h.stops
+
+pub is_complete : (task : Task) (q : SourceEnds) (s : SinkEnds) (status : Status) → Ended task q s status → Completes task q s status
+is_complete Run q s status h = reading_completes Run q s status (run_reads q) h
+is_complete Check q s status h = reading_completes Check q s status (check_reads q) h
+is_complete (Gen n) q s status h = generated_completes n q s status h

@@ -4,3 +4,4 @@ pub mod StreamSteps
 pub mod Told
 pub mod Readiness
 pub mod Tasks
+pub mod Generated

@@ -15,7 +15,7 @@ use Rattle.plain_model.specs.declared.plain.Comparer.TheVariants as comparers
 use Rattle.plain_model.specs.declared.plain.Values.{Values}
 use Rattle.plain_model.specs.declared.plain.Plain.{Plain}
 use Rattle.plain_model.specs.declared.kinds.ItemKind.{ItemKind}
-use Rattle.plain_model.specs.declared.kinds.ItemKind.TheVariants.{Elements}
+use Rattle.plain_model.specs.declared.kinds.ItemKind.TheVariants.{Elements, Pairs}
 use Rattle.plain_model.specs.declared.names.Class.{Class}
 use Rattle.plain_model.specs.declared.names.Class.TheVariants as classes
 use Rattle.plain_model.specs.declared.commands.PlainOp.{PlainOp}
@@ -23,25 +23,28 @@ use Rattle.plain_model.specs.declared.commands.Query.{Query}
 use Rattle.plain_model.specs.declared.commands.Command.{Command}
 use Rattle.plain_model.specs.declared.commands.Command.TheVariants as commands
 use Rattle.plain_model.specs.declared.history.Refusal.{Refusal}
+use Rattle.plain_model.specs.declared.report.Answer.{Answer}
 use Rattle.plain_model.specs.declared.report.Answer.TheVariants as answers
 use Rattle.plain_model.specs.declared.report.CellDecl.{CellDecl}
 use Rattle.plain_model.specs.declared.report.Part.{Part}
 use Rattle.plain_model.specs.Comparers.{order_named, equality_named, name_of_order, name_of_equality, comparer_eq, with_comparer, has_comparer}
 use Rattle.plain_model.specs.Kinds.{is_kind, items_of_kind, items_of_op}
 use Rattle.plain_model.specs.Names.{Name, Bindings, get, with_name, contents_kind}
-use Rattle.plain_model.specs.Sources.{are_within, op_with_values, query_with_values}
+use Rattle.plain_model.specs.Sources.{are_within, query_values, op_with_values, query_with_values}
 use Rattle.plain_model.specs.Plain.{Shape, list_like, stack_like, queue_like, set_like, map_like, shape_of, made, nothing, plain}
 use Rattle.plain_model.specs.Queries.{answer, shown}
-use Rattle.plain_model.specs.Locals.{◌>>=◌, Locals, no_locals, Given, gives, bind, bound, collection, as_collection, contents, collection_at, contents_at, source, op_from, query_from, new_given, edited, let_given, rekeyed, shape_rekeyed, pairs_or_present, rekey, rekey_given, ask_given, local}
+use Rattle.plain_model.specs.Locals.{◌>>=◌, Locals, no_locals, Given, gives, Bound, bind, bound, collection, builder, array_builder, frozen, walk, Frozen, array_of, frozen_contents, frozen_answer, count_answer, as_collection, contents, collection_at, contents_at, source, op_from, query_from, new_given, edited, let_given, rekeyed, shape_rekeyed, pairs_or_present, rekey, rekey_given, ask_given, local}
+use Rattle.locals.specs.Bound.{has_answer, can_answer}
+use Rattle.locals.specs.Commands.{set_of, map_of}
 use Rattle.runs.specs.Places.{cell_place, kinds_of, AreApart}
 use Rattle.runs.specs.Needs.{CanDo, Leaves, IsAnswered, CanDoAll, CanBegin}
 use Rattle.runs.proofs.OneCell.{made_kind, let_kind}
 use Rattle.script_line.specs.Lines.{command_values}
 use Rattle.script.specs.Symbols.{Binding, cell_kind, with_bound}
-use Rattle.script.specs.Commands.{binding}
+use Rattle.script.specs.Commands.{binding, class_answers}
 use Rattle.script.specs.Commands as script
 use Rattle.script.specs.Ready.{AreReady, AreDistinct, HasFirst}
-use Rattle.script.proofs.Checked.{check_binding, dictionary_checked, stack_checked, queue_checked, update_checked, read_checked, publish_checked, new_checked, let_checked, rekey_checked, ask_checked, show_checked, HasContents, HasSource}
+use Rattle.script.proofs.Checked.{check_binding, dictionary_checked, stack_checked, queue_checked, update_checked, read_checked, publish_checked, new_checked, let_checked, rekey_checked, ask_checked, show_checked, frozen_set_checked, frozen_map_checked, HasContents, HasSource}
 
 clash : (b : Bool) → b ≡ true → b ≡ false → ⊥
 clash b t f = cc
@@ -99,11 +102,19 @@ has_place (c ∷ cells) name k e = split (bytes_eq c.name name) refl e (has_plac
 
 -- ---- names
 
--- a name is bound to a collection of the kind that the parser knows
+-- the class of what a name is bound to
+abbrev class_of : Bound → Class
+class_of (collection p) = classes.Collection p.kind
+class_of (builder b) = classes.Builder b.contents.kind
+class_of (array_builder b) = classes.Builder kinds.Array
+class_of (frozen f) = classes.Frozen (frozen_contents f).kind
+class_of (walk h) = classes.Walk
+
+-- a name is bound to something of the class that the parser knows
 record HasValue (class : Class) (s : Locals) (x : Name) : Type 0 where
-  pub value : Plain
-  pub class_is : class ≡ classes.Collection value.kind
-  pub is : bound s x ≡ Some (collection value)
+  pub value : Bound
+  pub class_is : class ≡ class_of value
+  pub is : bound s x ≡ Some value
 
 abbrev HaveKinds : Bindings Class → Locals → Type 0
 HaveKinds names s = (x : Name) (class : Class) → get names x ≡ Some class → HasValue class s x
@@ -122,76 +133,82 @@ get-with_name {T} x v (b ∷ names) y = split (bytes_eq b.0 x) (bytes_eq b.0 y) 
     split false true false et eu ew rest = ap (λ (z : Bool). if z then Some b.1 else get (with_name x v names) y) eu
     split false false w et eu ew rest = ap (λ (z : Bool). if z then Some b.1 else get (with_name x v names) y) eu ∙ rest
 
-have_more : (names : Bindings Class) (s : Locals) (x : Name) (p : Plain) → HaveKinds names s → HaveKinds (with_name x (classes.Collection p.kind) names) (bind x (collection p) s)
-have_more names s x p have y class e = split (bytes_eq x y) refl (sym (get-with_name x (classes.Collection p.kind) names y) ∙ e)
+have_more : (names : Bindings Class) (s : Locals) (x : Name) (v : Bound) → HaveKinds names s → HaveKinds (with_name x (class_of v) names) (bind x v s)
+have_more names s x v have y class e = split (bytes_eq x y) refl (sym (get-with_name x (class_of v) names y) ∙ e)
   where
-    split : (t : Bool) → bytes_eq x y ≡ t → (if bytes_eq x y then Some (classes.Collection p.kind) else get names y) ≡ Some class → HasValue class (bind x (collection p) s) y
+    split : (t : Bool) → bytes_eq x y ≡ t → (if bytes_eq x y then Some (class_of v) else get names y) ≡ Some class → HasValue class (bind x v s) y
     split true is e =
-        let at : Some (classes.Collection p.kind) ≡ Some class = ap (λ (t : Bool). if t then Some (classes.Collection p.kind) else get names y) (sym is) ∙ e in
-        let same : classes.Collection p.kind ≡ class = cc in
-        record { value = p; class_is = sym same; is = get-with_name x (collection p) s.names y ∙ ap (λ (t : Bool). if t then Some (collection p) else bound s y) is }
+        let at : Some (class_of v) ≡ Some class = ap (λ (t : Bool). if t then Some (class_of v) else get names y) (sym is) ∙ e in
+        let same : class_of v ≡ class = cc in
+        record { value = v; class_is = sym same; is = get-with_name x v s.names y ∙ ap (λ (t : Bool). if t then Some v else bound s y) is }
     split false is e =
-        let h = have y class (ap (λ (t : Bool). if t then Some (classes.Collection p.kind) else get names y) (sym is) ∙ e) in
-        record { value = h.value; class_is = h.class_is; is = get-with_name x (collection p) s.names y ∙ (ap (λ (t : Bool). if t then Some (collection p) else bound s y) is ∙ h.is) }
+        let h = have y class (ap (λ (t : Bool). if t then Some (class_of v) else get names y) (sym is) ∙ e) in
+        record { value = h.value; class_is = h.class_is; is = get-with_name x v s.names y ∙ (ap (λ (t : Bool). if t then Some v else bound s y) is ∙ h.is) }
 
--- a name bound with the kind that its value has
-have_bound : (names : Bindings Class) (s after : Locals) (x : Name) (k : Kind) (p : Plain) (b : Option Binding) → HaveKinds names s → p.kind ≡ k → after ≡ bind x (collection p) s → b ≡ script.collection x k
+-- a name bound with the class that its value has
+have_bound : (names : Bindings Class) (s after : Locals) (x : Name) (c : Class) (v : Bound) (b : Option Binding) → HaveKinds names s → class_of v ≡ c → after ≡ bind x v s → b ≡ Some (x, c)
     → HaveKinds (with_bound names b) after
-have_bound names s after x k p b have kind is binds =
+have_bound names s after x c v b have class is binds =
     subst (λ (o : Option Binding). HaveKinds (with_bound names o) after) (sym binds)
-    (subst (λ l. HaveKinds (with_name x (classes.Collection l) names) after) kind (subst (HaveKinds (with_name x (classes.Collection p.kind) names)) (sym is) (have_more names s x p have)))
+    (subst (λ d. HaveKinds (with_name x d names) after) class (subst (HaveKinds (with_name x (class_of v) names)) (sym is) (have_more names s x v have)))
+
+-- a collection bound with its kind
+have_collection : (names : Bindings Class) (s after : Locals) (x : Name) (k : Kind) (p : Plain) (b : Option Binding) → HaveKinds names s → p.kind ≡ k → after ≡ bind x (collection p) s → b ≡ script.collection x k
+    → HaveKinds (with_bound names b) after
+have_collection names s after x k p b have kind is binds = have_bound names s after x (classes.Collection k) (collection p) b have (ap classes.Collection kind) is binds
 
 have_same : (names : Bindings Class) (s after : Locals) (b : Option Binding) → HaveKinds names s → after ≡ s → b ≡ None → HaveKinds (with_bound names b) after
 have_same names s after b have is none = subst (λ (o : Option Binding). HaveKinds (with_bound names o) after) (sym none) (subst (HaveKinds names) (sym is) have)
 
 -- ---- what names stand for
 
-some_kind : (k l : Kind) → classes.Collection k ≡ classes.Collection l → l ≡ k
-some_kind k l e = cc
-
 -- a name that is bound to a collection of this kind
 record HasPlain (s : Locals) (x : Name) (k : Kind) : Type 0 where
   pub value : Plain
   pub kind : value.kind ≡ k
-  pub bound : bound s x ≡ Some (collection value)
+  pub is : collection_at s x ≡ Some value
 
 collection_of : (names : Bindings Class) (s : Locals) (x : Name) (k : Kind) → HaveKinds names s → get names x ≡ Some (classes.Collection k) → HasPlain s x k
-collection_of names s x k have e =
-    let h = have x (classes.Collection k) e in
-    record { value = h.value; kind = some_kind k h.value.kind h.class_is; bound = h.is }
-
-contents_plain : (names : Bindings Class) (s : Locals) (x : Name) (k : Kind) → HaveKinds names s → HasContents names x k → HasPlain s x k
-contents_plain names s x k have c =
-    let h = have x c.class c.is in
-    record { value = h.value; kind = by (ap contents_kind (sym h.class_is) ∙ c.kind); bound = h.is }
+collection_of names s x k have e = let h = have x (classes.Collection k) e in by h.value h.class_is h.is
   where
-    by : {l : Kind} → Some l ≡ Some k → l ≡ k
-    by e = cc
+    by : (v : Bound) → classes.Collection k ≡ class_of v → bound s x ≡ Some v → HasPlain s x k
+    by (collection p) class is = record { value = p; kind = cc; is = ap (λ b. b >>= as_collection) is }
+    by _ class is = absurd cc
 
-at_contents : (s : Locals) (x : Name) (k : Kind) → (h : HasPlain s x k) → contents_at s x ≡ Some h.value
-at_contents s x k h = ap (λ b. b >>= contents) h.bound
+-- a name that is bound to what has these contents
+record HasElements (s : Locals) (x : Name) : Type 0 where
+  pub value : Plain
+  pub is : contents_at s x ≡ Some value
 
-at_collection : (s : Locals) (x : Name) (k : Kind) → (h : HasPlain s x k) → collection_at s x ≡ Some h.value
-at_collection s x k h = ap (λ b. b >>= as_collection) h.bound
+contents_plain : (names : Bindings Class) (s : Locals) (x : Name) (k : Kind) → HaveKinds names s → HasContents names x k → HasElements s x
+contents_plain names s x k have c =
+    let h = have x c.class c.is in by h.value (ap contents_kind (sym h.class_is) ∙ c.kind) h.is
+  where
+    by : (v : Bound) → contents_kind (class_of v) ≡ Some k → bound s x ≡ Some v → HasElements s x
+    by (collection p) kind is = record { value = p; is = ap (λ b. b >>= contents) is }
+    by (builder b) kind is = record { value = b.contents; is = ap (λ b. b >>= contents) is }
+    by (array_builder b) kind is = record { value = array_of b.contents; is = ap (λ b. b >>= contents) is }
+    by (frozen f) kind is = record { value = frozen_contents f; is = ap (λ b. b >>= contents) is }
+    by (walk h) kind is = absurd cc
 
 -- the values that a command is given
 source_there : (names : Bindings Class) (s : Locals) (needed : ItemKind) (src : Values) (from : Option Name) → HaveKinds names s → HasSource names needed from → (vs : Values) × (source s src from ≡ Some vs)
 source_there names s needed src None have h = (src, refl)
 source_there names s needed src (Some x) have h =
     let p = contents_plain names s x h.kind have h.has in
-    (p.value.values, ap (option_map (λ (q : Plain). q.values)) (at_contents s x h.kind p))
+    (p.value.values, ap (option_map (λ (q : Plain). q.values)) p.is)
 
 op_there : (names : Bindings Class) (s : Locals) (needed : ItemKind) (op : PlainOp) (from : Option Name) → HaveKinds names s → HasSource names needed from → (o : PlainOp) × (op_from s op from ≡ Some o)
 op_there names s needed op None have h = (op, refl)
 op_there names s needed op (Some x) have h =
     let p = contents_plain names s x h.kind have h.has in
-    (op_with_values op p.value.values, ap (option_map (λ (q : Plain). op_with_values op q.values)) (at_contents s x h.kind p))
+    (op_with_values op p.value.values, ap (option_map (λ (q : Plain). op_with_values op q.values)) p.is)
 
 query_there : (names : Bindings Class) (s : Locals) (needed : ItemKind) (query : Query) (from : Option Name) → HaveKinds names s → HasSource names needed from → (q : Query) × (query_from s query from ≡ Some q)
 query_there names s needed query None have h = (query, refl)
 query_there names s needed query (Some x) have h =
     let p = contents_plain names s x h.kind have h.has in
-    (query_with_values query p.value.values, ap (option_map (λ (q : Plain). query_with_values query q.values)) (at_contents s x h.kind p))
+    (query_with_values query p.value.values, ap (option_map (λ (q : Plain). query_with_values query q.values)) p.is)
 
 -- ---- kinds
 
@@ -278,6 +295,22 @@ rekeyed_kind kind vs q e = by_shape (shape_of kind) e
     by_shape set_like e = cc
     by_shape map_like e = present _ e
 
+-- what a name is bound to answers a question that its class answers
+has_its_answer : (query : Query) (v : Bound) → class_answers (class_of v) query ≡ true → has_answer query v ≡ true
+has_its_answer query (frozen f) e = e
+has_its_answer query _ e = refl
+
+asked_there : (query q : Query) (v : Bound) (s : Locals) → class_answers (class_of v) query ≡ true → (a : Answer) × (ask_given q v s ≡ Some (gives a s))
+asked_there query q (collection p) s e = (answer q p, refl)
+asked_there query q (builder b) s e = (answer q b.contents, refl)
+asked_there query q (array_builder b) s e = (answer q (array_of b.contents), refl)
+asked_there query q (frozen f) s e = (frozen_answer f q, refl)
+asked_there query q (walk h) s e = absurd cc
+
+-- what `frozenset` and `frozenmap` give
+abbrev frozen_given : Name → Frozen → Locals → Given
+frozen_given x f s = gives (count_answer (frozen_contents f)) (bind x (frozen f) s)
+
 -- ---- a row for each command
 
 record CanGoOn (cells : List CellDecl) (names : Bindings Class) (c : Command) (b : Option Binding) (s : Locals) : Type 0 where
@@ -309,7 +342,7 @@ can_go_on cells names (commands.Read cell x) b s have ok within =
     let h = has_place cells cell r.0 r.1 in
     record {
       can = h.place;
-      kinds = λ after leaves. have_bound names s after x r.0 leaves.value b have (by (sym leaves.kind ∙ h.kind)) leaves.binds r.2;
+      kinds = λ after leaves. have_collection names s after x r.0 leaves.value b have (by (sym leaves.kind ∙ h.kind)) leaves.binds r.2;
     }
   where
     by : {k l : Kind} → Some k ≡ Some l → k ≡ l
@@ -319,7 +352,7 @@ can_go_on cells names (commands.Publish cell x) b s have ok within =
     let h = has_place cells cell r.0 r.2 in
     let p = collection_of names s x r.1 have r.3 in
     record {
-      can = record { value = p.value; is = at_collection s x r.1 p; kind = h.kind ∙ ap (λ (k : Kind). Some k) (kind_same r.0 r.1 r.4 ∙ sym p.kind) };
+      can = record { value = p.value; is = p.is; kind = h.kind ∙ ap (λ (k : Kind). Some k) (kind_same r.0 r.1 r.4 ∙ sym p.kind) };
       kinds = λ after leaves. have_same names s after b have leaves r.5;
     }
 can_go_on cells names (commands.GetOrAdd cell k v) b s have ok within =
@@ -348,7 +381,7 @@ can_go_on cells names (commands.New x kind src from) b s have ok within =
     let n = new_binds x kind vs.0 s (made kind vs.0) refl in
     record {
       can = record { built = within; given = g; is = is };
-      kinds = λ after leaves. have_bound names s after x kind n.value b have n.kind (after_answer (commands.New x kind src from) s after g is leaves ∙ n.binds) r.1;
+      kinds = λ after leaves. have_collection names s after x kind n.value b have n.kind (after_answer (commands.New x kind src from) s after g is leaves ∙ n.binds) r.1;
     }
 can_go_on cells names (commands.Let y x op from) b s have ok within =
     let r = let_checked cells names y x op from b ok in
@@ -356,10 +389,10 @@ can_go_on cells names (commands.Let y x op from) b s have ok within =
     let o = op_there names s (items_of_op op) op from have r.3 in
     let g = let_given y p.value (plain o.0 p.value) s in
     let is : local (commands.Let y x op from) s ≡ Some g =
-    ap (λ v. v >>= λ q. op_from s op from >>= λ t. Some (let_given y q (plain t q) s)) (at_collection s x r.0 p) ∙ ap (λ v. v >>= λ t. Some (let_given y p.value (plain t p.value) s)) o.1 in
+    ap (λ v. v >>= λ q. op_from s op from >>= λ t. Some (let_given y q (plain t q) s)) p.is ∙ ap (λ v. v >>= λ t. Some (let_given y p.value (plain t p.value) s)) o.1 in
     record {
       can = record { built = within; given = g; is = is };
-      kinds = λ after leaves. have_bound names s after y r.0 (edited p.value (plain o.0 p.value)) b have (let_kind o.0 p.value ∙ p.kind)
+      kinds = λ after leaves. have_collection names s after y r.0 (edited p.value (plain o.0 p.value)) b have (let_kind o.0 p.value ∙ p.kind)
           (after_answer (commands.Let y x op from) s after g is leaves) r.4;
     }
 can_go_on cells names (commands.Rekey y x comparer) b s have ok within =
@@ -369,34 +402,55 @@ can_go_on cells names (commands.Rekey y x comparer) b s have ok within =
     let at : with_comparer p.value.kind comparer ≡ Some l = ap (λ k. with_comparer k comparer) p.kind ∙ r.3 in
     let g = rekey y p.value comparer l s in
     let is : local (commands.Rekey y x comparer) s ≡ Some g =
-    ap (λ v. v >>= λ q. with_comparer q.kind comparer >>= λ k. Some (rekey y q comparer k s)) (at_collection s x r.0 p) ∙ ap (λ v. v >>= λ k. Some (rekey y p.value comparer k s)) at in
+    ap (λ v. v >>= λ q. with_comparer q.kind comparer >>= λ k. Some (rekey y q comparer k s)) p.is ∙ ap (λ v. v >>= λ k. Some (rekey y p.value comparer k s)) at in
     let n = rekeyed_binds y p.value l s (has_comparer p.value.kind comparer) (rekeyed l p.value.values) (λ own. by (sym (own_comparer p.value.kind comparer own) ∙ at)) (rekeyed_kind l p.value.values) in
     record {
       can = record { built = refl; given = g; is = is };
-      kinds = λ after leaves. have_bound names s after y l n.value b have n.kind (after_answer (commands.Rekey y x comparer) s after g is leaves ∙ n.binds) r.4;
+      kinds = λ after leaves. have_collection names s after y l n.value b have n.kind (after_answer (commands.Rekey y x comparer) s after g is leaves ∙ n.binds) r.4;
     }
   where
     by : {k l : Kind} → Some k ≡ Some l → k ≡ l
     by e = cc
 can_go_on cells names (commands.Ask x query from) b s have ok within =
     let r = ask_checked cells names x query from b ok in
-    let p = contents_plain names s x r.0 have r.1 in
+    let h = have x r.0 r.1 in
     let q = query_there names s Elements query from have r.3 in
-    let g = gives (answer q.0 p.value) s in
-    let is : local (commands.Ask x query from) s ≡ Some g =
-    ap (λ v. v >>= λ c. query_from s query from >>= λ t. ask_given t c s) p.bound ∙ ap (λ v. v >>= λ t. ask_given t (collection p.value) s) q.1 in
+    let answered : class_answers (class_of h.value) query ≡ true = ap (λ c. class_answers c query) (sym h.class_is) ∙ r.2 in
+    let a = asked_there query q.0 h.value s answered in
+    let is : local (commands.Ask x query from) s ≡ Some (gives a.0 s) =
+    ap (λ v. v >>= λ c. query_from s query from >>= λ t. ask_given t c s) h.is ∙ (ap (λ v. v >>= λ t. ask_given t h.value s) q.1 ∙ a.1) in
     record {
-      can = record { built = within; given = g; is = is };
-      kinds = λ after leaves. have_same names s after b have (after_answer (commands.Ask x query from) s after g is leaves) r.4;
+      can = record { built = both (are_within (query_values query)) (can_answer query (bound s x)) within (ap (can_answer query) h.is ∙ has_its_answer query h.value answered); given = gives a.0 s; is = is };
+      kinds = λ after leaves. have_same names s after b have (after_answer (commands.Ask x query from) s after (gives a.0 s) is leaves) r.4;
     }
 can_go_on cells names (commands.Show x) b s have ok within =
     let r = show_checked cells names x b ok in
     let p = contents_plain names s x r.0 have r.1 in
     let g = gives (shown p.value.values) s in
-    let is : local (commands.Show x) s ≡ Some g = ap (λ v. v >>= λ q. Some (gives (shown q.values) s)) (at_contents s x r.0 p) in
+    let is : local (commands.Show x) s ≡ Some g = ap (λ v. v >>= λ q. Some (gives (shown q.values) s)) p.is in
     record {
       can = record { built = refl; given = g; is = is };
       kinds = λ after leaves. have_same names s after b have (after_answer (commands.Show x) s after g is leaves) r.2;
+    }
+can_go_on cells names (commands.FrozenSet x eq src from) b s have ok within =
+    let r = frozen_set_checked cells names x eq src from b ok in
+    let vs = source_there names s Elements src from have r.0 in
+    let f = set_of eq vs.0 in
+    let g = frozen_given x f s in
+    let is : local (commands.FrozenSet x eq src from) s ≡ Some g = ap (λ v. v >>= λ us. Some (frozen_given x (set_of eq us) s)) vs.1 in
+    record {
+      can = record { built = within; given = g; is = is };
+      kinds = λ after leaves. have_bound names s after x (classes.Frozen (kinds.HSet eq)) (frozen f) b have refl (after_answer (commands.FrozenSet x eq src from) s after g is leaves) r.1;
+    }
+can_go_on cells names (commands.FrozenMap x eq src from) b s have ok within =
+    let r = frozen_map_checked cells names x eq src from b ok in
+    let vs = source_there names s Pairs src from have r.0 in
+    let f = map_of eq vs.0 in
+    let g = frozen_given x f s in
+    let is : local (commands.FrozenMap x eq src from) s ≡ Some g = ap (λ v. v >>= λ us. Some (frozen_given x (map_of eq us) s)) vs.1 in
+    record {
+      can = record { built = within; given = g; is = is };
+      kinds = λ after leaves. have_bound names s after x (classes.Frozen (kinds.Dict eq)) (frozen f) b have refl (after_answer (commands.FrozenMap x eq src from) s after g is leaves) r.1;
     }
 can_go_on cells names _ b s have ok within = absurd cc
 

@@ -1,5 +1,7 @@
 //! Numbers in decimal, without memory.
-ghost use Rattle.std.specs.Prelude.{◌≡◌, ◌≤◌, decimal, drop, length};
+ghost use Rattle.std.specs.Prelude.{◌≡◌, ◌≤◌, ◌<◌, ◌^◌, ℕ, None, IfSome, decimal, drop, length};
+
+use std::str;
 
 /// The most digits of a number of 32 bits.
 pub const MAX_DIGITS: usize = 10;
@@ -27,4 +29,24 @@ pub fn digits_from(bytes: &[u8], start: usize) -> &[u8]
     ensures { result.now ≡ drop start bytes.now }
 {
     &bytes[start..]
+}
+
+/// The number of 32 bits that these bytes write as it is written here.
+pub fn number_of(bytes: &[u8]) -> Option<u32>
+    ensures is { IfSome result (λ n. bytes.now ≡ decimal n) }
+    ensures other { result ≡ None → (n : ℕ) → n < 2 ^ 32 → ¬ (bytes.now ≡ decimal n) }
+{
+    let Ok(text) = str::from_utf8(bytes) else {
+        return None;
+    };
+    let Ok(number) = text.parse::<u32>() else {
+        return None;
+    };
+    let mut digits = [0; MAX_DIGITS];
+    let start = write_digits(number, &mut digits);
+    if digits_from(&digits, start) == bytes {
+        Some(number)
+    } else {
+        None
+    }
 }

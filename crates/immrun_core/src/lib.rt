@@ -11,7 +11,7 @@ mod task;
 mod word;
 
 pub use plain_model::report_text;
-pub use program::top;
+pub use program::{plain_top, top};
 pub use run::run_one;
 pub use status::Status;
 pub use task::Task;

@@ -49,7 +49,8 @@ where
     } };
 }
 
-/// The right of one caller to call a cell. It cannot be dropped. Contracts see what it knows.
+/// The right of one caller to call a cell. It cannot be dropped: `close` takes it back, or it is given
+/// up. Contracts see what it knows.
 pub struct CellPass<C: Share, X: Change<C>>
 where
     Logged<C, X>: Payload<Plain = Kept>,
@@ -89,6 +90,12 @@ impl<C: Share, X: Change<C>> CellPass<C, X> {
         ensures { result ≡ front_of self.now.view.seen }
     {
         self.pass.seen()
+    }
+
+    /// Gives the pass up: its cell can never be closed then. For a caller that met want of memory.
+    pub fn give_up(self) {
+        let CellPass { pass, last: _ } = self;
+        pass.give_up();
     }
 
     /// (for proofs alone) The kind of the cell's values is that of what was seen.

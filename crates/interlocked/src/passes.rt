@@ -37,7 +37,6 @@ pub(crate) fn unwrap<C: Share, X: Change<C>>(
 {
     let Ok(mut all) = Vec::with_capacity(alloc, passes.len()) else {
         while let Some(pass) = passes.pop() {
-            let CellPass { pass, last: _ } = pass;
             pass.give_up();
         }
         passes.destroy_empty();

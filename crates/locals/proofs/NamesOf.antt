@@ -16,28 +16,16 @@ get_of (b ∷ names) x = split (bytes_eq b.0 x) (get_of names x)
     split true e = refl
     split false e = e
 
--- a name that is bound
-pub bound_at_bound : (names : Bindings Bound) (x : Name) (b : Bound) → Some b ≡ get names x → option_map collection (as_collection (bound_of b)) ≡ bound (locals_of names) x
-bound_at_bound names x b e = only_collection b ∙ sym (get_of names x ∙ ap (option_map bound_of) (sym e))
-  where
-    only_collection : (b : Bound) → option_map collection (as_collection (bound_of b)) ≡ Some (bound_of b)
-    only_collection (bounds.Collection p) = refl
-
-pub bound_at_unbound : (names : Bindings Bound) (x : Name) → None ≡ get names x → None ≡ bound (locals_of names) x
-bound_at_unbound names x e = sym (get_of names x ∙ ap (option_map bound_of) (sym e))
+-- what a name is bound to
+pub bound_of_get : (names : Bindings Bound) (x : Name) → option_map bound_of (get names x) ≡ bound (locals_of names) x
+bound_of_get names x = sym (get_of names x)
 
 pub collection_at_bound : (names : Bindings Bound) (x : Name) (b : Bound) → Some b ≡ get names x → collection_at (locals_of names) x ≡ as_collection (bound_of b)
 collection_at_bound names x b e = ap (λ o. o >>= as_collection) (get_of names x ∙ ap (option_map bound_of) (sym e))
 
-pub contents_at_bound : (names : Bindings Bound) (x : Name) (b : Bound) → Some b ≡ get names x → contents_at (locals_of names) x ≡ contents (bound_of b)
-contents_at_bound names x b e = ap (λ o. o >>= contents) (get_of names x ∙ ap (option_map bound_of) (sym e))
-
 -- and one that is not
 pub collection_at_unbound : (names : Bindings Bound) (x : Name) → None ≡ get names x → collection_at (locals_of names) x ≡ None
 collection_at_unbound names x e = ap (λ o. o >>= as_collection) (get_of names x ∙ ap (option_map bound_of) (sym e))
-
-pub contents_at_unbound : (names : Bindings Bound) (x : Name) → None ≡ get names x → contents_at (locals_of names) x ≡ None
-contents_at_unbound names x e = ap (λ o. o >>= contents) (get_of names x ∙ ap (option_map bound_of) (sym e))
 
 with_name_of : (x : Name) (v : Bound) (names : Bindings Bound) → map binding_of (with_name x v names) ≡ with_name x (bound_of v) (map binding_of names)
 with_name_of x v [] = refl

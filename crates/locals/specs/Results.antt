@@ -1,23 +1,25 @@
 -- What local commands answer and bind.
-use Rattle.std.specs.Prelude.{◌≡◌, Bool, true, false, Option, Some, None}
+use Rattle.std.specs.Prelude.{◌≡◌, Bool, true, false, ◌&&◌, Option, Some, None}
 use Rattle.plain_model.specs.declared.commands.Command.{Command}
 use Rattle.plain_model.specs.declared.commands.Command.TheVariants as commands
 use Rattle.plain_model.specs.declared.report.Answer.{Answer}
 use Rattle.plain_model.specs.Sources.{is_within, are_within, op_values, query_values}
 use Rattle.plain_model.specs.Names.{Name}
-use Rattle.plain_model.specs.Locals.{Locals, Given, gives, bind}
+use Rattle.plain_model.specs.Locals.{Locals, Given, gives, bind, bound}
 use Rattle.locals.specs.declared.bound.Bound.{Bound}
 use Rattle.locals.specs.declared.results.LocalResult.{LocalResult}
-use Rattle.locals.specs.Bound.{bound_of}
+use Rattle.locals.specs.Bound.{bound_of, can_answer}
 
--- the local commands that are built, with sequences that stay within 64 bits
-abbrev pub can_run : Command → Bool
-can_run (commands.New x kind src from) = is_within src
-can_run (commands.Let y x op from) = are_within (op_values op)
-can_run (commands.Rekey y x comparer) = true
-can_run (commands.Ask x query from) = are_within (query_values query)
-can_run (commands.Show x) = true
-can_run _ = false
+-- the local commands that are built, with sequences that stay within 64 bits, and a question that is answered
+abbrev pub can_run : Command → Locals → Bool
+can_run (commands.New x kind src from) s = is_within src
+can_run (commands.Let y x op from) s = are_within (op_values op)
+can_run (commands.Rekey y x comparer) s = true
+can_run (commands.Ask x query from) s = are_within (query_values query) && can_answer query (bound s x)
+can_run (commands.Show x) s = true
+can_run (commands.FrozenSet x eq src from) s = is_within src
+can_run (commands.FrozenMap x eq src from) s = is_within src
+can_run _ s = false
 
 -- the names with one more, if there is one
 abbrev pub bind_some : Option (Name × Bound) → Locals → Locals

@@ -1,18 +1,19 @@
 //! The local commands.
 ghost use Rattle.std.specs.Prelude.{◌≡◌, true, IfOk, option_map};
 ghost use Rattle.plain_model.specs.Comparers.{with_comparer};
-ghost use Rattle.plain_model.specs.Locals.{local, source, op_from, query_from};
+ghost use Rattle.plain_model.specs.Locals.{bound, gives, local, source, op_from, query_from};
 ghost use Rattle.plain_model.specs.Plain.{made, plain};
-ghost use Rattle.plain_model.specs.Queries.{answer};
 ghost use Rattle.plain_model.specs.Sources.{is_within, are_within, op_values, query_values};
 ghost use Rattle.collections.specs.Changes.{rekeyed_by};
+ghost use Rattle.locals.specs.Bound.{bound_of, can_answer, has_answer};
 ghost use Rattle.locals.specs.Results.{can_run, given_of, IsGiven};
-ghost use Rattle.locals.specs.Commands.{new_result, let_result, rekey_result};
+ghost use Rattle.locals.specs.Commands.{asked, frozen_result, let_result, map_of, new_result};
+ghost use Rattle.locals.specs.Commands.{rekey_result, set_of};
 
-use crate::Locals;
 use crate::results::{LocalResult, answer_and_bind, answer_only};
-use collections::Collection;
-use imm_base::{Edit, Memory, Text24};
+use crate::{Bound, Locals};
+use collections::{Collection, FrozenCollection};
+use imm_base::{Edit, Memory, Text24, ValEq};
 use plain_model::{Answer, Command, Comparer, Kind, PlainOp, Query, Refusal, Values};
 use std::alloc::Global;
 
@@ -26,7 +27,7 @@ impl Locals {
     ///
     /// Takes what the operation or the question of the collection takes.
     pub fn run(&mut self, alloc: Global, command: &Command) -> Result<Option<Answer>, Memory>
-        requires { can_run command.now ≡ true }
+        requires { can_run command.now self.old ≡ true }
         ensures { IfOk result (λ a. IsGiven (local command.now self.old) a self.old self.new) }
     {
         match self.result(alloc, command)? {
@@ -40,7 +41,7 @@ impl Locals {
 
     // What a command answers and binds.
     fn result(&self, alloc: Global, command: &Command) -> Result<Option<LocalResult>, Memory>
-        requires { can_run command.now ≡ true }
+        requires { can_run command.now self.now ≡ true }
         ensures { IfOk result (λ r. option_map (λ t. given_of t self.now) r ≡ local command.now self.now) }
     {
         match command {
@@ -53,6 +54,12 @@ impl Locals {
             }
             Command::Ask(name, query, from) => self.ask_result(alloc, name, query, from),
             Command::Show(name) => self.show_result(alloc, name),
+            Command::FrozenSet(name, eq, values, from) => {
+                self.frozen_set_result(alloc, *name, *eq, values, from)
+            }
+            Command::FrozenMap(name, eq, pairs, from) => {
+                self.frozen_map_result(alloc, *name, *eq, pairs, from)
+            }
             _ => Ok(None),
         }
     }
@@ -70,11 +77,8 @@ impl Locals {
     {
         match from {
             None => Ok(Some(Collection::of_values(alloc, kind, values)?)),
-            Some(name) => match self.contents(name) {
-                Some(value) => {
-                    let values = value.values(alloc)?;
-                    Ok(Some(Collection::of_values(alloc, kind, &values)?))
-                }
+            Some(name) => match self.values(alloc, name)? {
+                Some(values) => Ok(Some(Collection::of_values(alloc, kind, &values)?)),
                 None => Ok(None),
             },
         }
@@ -93,9 +97,8 @@ impl Locals {
     {
         match from {
             None => Ok(Some(old.apply(alloc, op)?)),
-            Some(name) => match self.contents(name) {
-                Some(value) => {
-                    let values = value.values(alloc)?;
+            Some(name) => match self.values(alloc, name)? {
+                Some(values) => {
                     let op = op.with_values(alloc, values)?;
                     Ok(Some(old.apply(alloc, &op)?))
                 }
@@ -108,21 +111,62 @@ impl Locals {
     fn answered(
         &self,
         alloc: Global,
-        value: &Collection,
+        value: &Bound,
         query: &Query,
         from: &Option<Text24>,
     ) -> Result<Option<Answer>, Memory>
-        requires { are_within (query_values query.now) ≡ true }
-        ensures { IfOk result (λ a. a ≡ option_map (λ q. answer q value.now) (query_from self.now query.now from.now)) }
+        requires within { are_within (query_values query.now) ≡ true }
+        requires answered { has_answer query.now (bound_of value.now) ≡ true }
+        ensures { IfOk result (λ a. option_map (λ b. gives b self.now) a
+            ≡ asked (query_from self.now query.now from.now) (bound_of value.now) self.now) }
     {
         match from {
             None => Ok(Some(value.answer(alloc, query)?)),
-            Some(name) => match self.contents(name) {
-                Some(given) => {
-                    let values = given.values(alloc)?;
+            Some(name) => match self.values(alloc, name)? {
+                Some(values) => {
                     let query = query.with_values(alloc, values)?;
                     Ok(Some(value.answer(alloc, &query)?))
                 }
+                None => Ok(None),
+            },
+        }
+    }
+
+    // The frozen set of these values, or of those of a name.
+    fn frozen_set(
+        &self,
+        alloc: Global,
+        eq: ValEq,
+        values: &Values,
+        from: &Option<Text24>,
+    ) -> Result<Option<FrozenCollection>, Memory>
+        requires { is_within values.now ≡ true }
+        ensures { IfOk result (λ f. f ≡ option_map (set_of eq) (source self.now values.now from.now)) }
+    {
+        match from {
+            None => Ok(Some(FrozenCollection::set_of_values(alloc, eq, values)?)),
+            Some(name) => match self.values(alloc, name)? {
+                Some(values) => Ok(Some(FrozenCollection::set_of_values(alloc, eq, &values)?)),
+                None => Ok(None),
+            },
+        }
+    }
+
+    // The frozen map of these pairs, or of those of a name.
+    fn frozen_map(
+        &self,
+        alloc: Global,
+        eq: ValEq,
+        pairs: &Values,
+        from: &Option<Text24>,
+    ) -> Result<Option<FrozenCollection>, Memory>
+        requires { is_within pairs.now ≡ true }
+        ensures { IfOk result (λ f. f ≡ option_map (map_of eq) (source self.now pairs.now from.now)) }
+    {
+        match from {
+            None => Ok(Some(FrozenCollection::map_of_values(alloc, eq, pairs)?)),
+            Some(name) => match self.values(alloc, name)? {
+                Some(pairs) => Ok(Some(FrozenCollection::map_of_values(alloc, eq, &pairs)?)),
                 None => Ok(None),
             },
         }
@@ -197,7 +241,8 @@ impl Locals {
         query: &Query,
         from: &Option<Text24>,
     ) -> Result<Option<LocalResult>, Memory>
-        requires { are_within (query_values query.now) ≡ true }
+        requires within { are_within (query_values query.now) ≡ true }
+        requires answered { can_answer query.now (bound self.now name.now) ≡ true }
         ensures { IfOk result (λ r. option_map (λ t. given_of t self.now) r ≡ local (Command.Ask name.now query.now from.now) self.now) }
     {
         match self.bound(name) {
@@ -213,8 +258,44 @@ impl Locals {
     fn show_result(&self, alloc: Global, name: &Text24) -> Result<Option<LocalResult>, Memory>
         ensures { IfOk result (λ r. option_map (λ t. given_of t self.now) r ≡ local (Command.Show name.now) self.now) }
     {
-        match self.contents(name) {
-            Some(value) => Ok(Some(answer_only(value.preview(alloc)?))),
+        match self.preview(alloc, name)? {
+            Some(answer) => Ok(Some(answer_only(answer))),
+            None => Ok(None),
+        }
+    }
+
+    // `frozenset`
+    fn frozen_set_result(
+        &self,
+        alloc: Global,
+        name: Text24,
+        eq: ValEq,
+        values: &Values,
+        from: &Option<Text24>,
+    ) -> Result<Option<LocalResult>, Memory>
+        requires { is_within values.now ≡ true }
+        ensures { IfOk result (λ r. option_map (λ t. given_of t self.now) r ≡ local (Command.FrozenSet name eq values.now from.now) self.now) }
+    {
+        match self.frozen_set(alloc, eq, values, from)? {
+            Some(frozen) => Ok(Some(frozen_result(name, frozen))),
+            None => Ok(None),
+        }
+    }
+
+    // `frozenmap`
+    fn frozen_map_result(
+        &self,
+        alloc: Global,
+        name: Text24,
+        eq: ValEq,
+        pairs: &Values,
+        from: &Option<Text24>,
+    ) -> Result<Option<LocalResult>, Memory>
+        requires { is_within pairs.now ≡ true }
+        ensures { IfOk result (λ r. option_map (λ t. given_of t self.now) r ≡ local (Command.FrozenMap name eq pairs.now from.now) self.now) }
+    {
+        match self.frozen_map(alloc, eq, pairs, from)? {
+            Some(frozen) => Ok(Some(frozen_result(name, frozen))),
             None => Ok(None),
         }
     }
@@ -228,10 +309,10 @@ fn new_result(name: Text24, kind: Kind, made: Result<Collection, Refusal>) -> Lo
     match made {
         Ok(value) => {
             let count = u64::from(value.count());
-            answer_and_bind(Answer::Count(count), name, value)
+            answer_and_bind(Answer::Count(count), name, Bound::Collection(value))
         }
         Err(refusal) => {
-            let empty = Collection::empty(kind);
+            let empty = Bound::Collection(Collection::empty(kind));
             answer_and_bind(Answer::Refused(refusal), name, empty)
         }
     }
@@ -242,10 +323,13 @@ fn let_result(name: Text24, old: &Collection, changed: Changed) -> Result<LocalR
     ensures { IfOk result (λ r. r ≡ let_result name old.now changed) }
 {
     match changed {
-        Ok(Edit::New(value)) => Ok(answer_and_bind(Answer::New, name, value)),
-        Ok(Edit::Same) => Ok(answer_and_bind(Answer::Same, name, old.share()?)),
+        Ok(Edit::New(value)) => Ok(answer_and_bind(Answer::New, name, Bound::Collection(value))),
+        Ok(Edit::Same) => {
+            let old = Bound::Collection(old.share()?);
+            Ok(answer_and_bind(Answer::Same, name, old))
+        }
         Err(refusal) => {
-            let old = old.share()?;
+            let old = Bound::Collection(old.share()?);
             Ok(answer_and_bind(Answer::Refused(refusal), name, old))
         }
     }
@@ -262,9 +346,17 @@ fn rekey_result(
 {
     match changed {
         Err(refusal) => {
-            let empty = Collection::empty(kind);
+            let empty = Bound::Collection(Collection::empty(kind));
             Ok(answer_and_bind(Answer::Refused(refusal), name, empty))
         }
         changed => let_result(name, old, changed),
     }
+}
+
+// What `frozenset` and `frozenmap` come to.
+fn frozen_result(name: Text24, frozen: FrozenCollection) -> LocalResult
+    ensures { result ≡ frozen_result name frozen }
+{
+    let count = u64::from(frozen.count());
+    answer_and_bind(Answer::Count(count), name, Bound::Frozen(frozen))
 }

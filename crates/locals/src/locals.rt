@@ -1,7 +1,9 @@
 //! The names of a part.
-ghost use Rattle.std.specs.Prelude.{◌≡◌, OnOk, OnErr, option_map};
+ghost use Rattle.std.specs.Prelude.{◌≡◌, true, IfOk, OnOk, OnErr, option_map};
 ghost use Rattle.std.specs.Option.{option_copied};
 ghost use Rattle.plain_model.specs.Locals.{bind, bound, collection, collection_at, contents_at, no_locals};
+ghost use Rattle.plain_model.specs.Queries.{shown};
+ghost use Rattle.plain_model.specs.Sources.{are_within};
 ghost use Rattle.locals.specs.Bound.{bound_of};
 ghost use Rattle.locals.specs.Results.{bind_some};
 
@@ -9,7 +11,7 @@ use crate::Bound;
 use crate::results::Binding;
 use collections::Collection;
 use imm_base::{Memory, Text24};
-use plain_model::Names;
+use plain_model::{Answer, Names, Values};
 use std::alloc::Global;
 use std::marker::Model;
 
@@ -43,14 +45,11 @@ impl Locals {
         }
     }
 
-    // What a name is bound to: today always a collection.
-    pub(crate) fn bound(&self, name: &Text24) -> Option<&Collection>
-        ensures { option_map collection (option_copied result) ≡ bound self.now name.now }
+    // What a name is bound to.
+    pub(crate) fn bound(&self, name: &Text24) -> Option<&Bound>
+        ensures { option_map bound_of (option_copied result) ≡ bound self.now name.now }
     {
-        match self.names.get(name) {
-            Some(bound) => bound.as_collection(),
-            None => None,
-        }
+        self.names.get(name)
     }
 
     /// The collection that a name is bound to.
@@ -63,13 +62,24 @@ impl Locals {
         }
     }
 
-    /// The collection whose elements a name stands for.
-    pub(crate) fn contents(&self, name: &Text24) -> Option<&Collection>
-        ensures { option_copied result ≡ contents_at self.now name.now }
+    /// Copies of the elements or pairs that a name stands for.
+    pub(crate) fn values(&self, alloc: Global, name: &Text24) -> Result<Option<Values>, Memory>
+        ensures values { IfOk result (λ v. v ≡ option_map (λ p. p.values) (contents_at self.now name.now)) }
+        ensures within { IfOk result (λ v. are_within v ≡ true) }
     {
-        match self.names.get(name) {
-            Some(bound) => bound.contents(),
-            None => None,
+        match self.bound(name) {
+            Some(bound) => Ok(Some(bound.values(alloc)?)),
+            None => Ok(None),
+        }
+    }
+
+    /// The count of what a name stands for, and copies of the first elements or pairs.
+    pub(crate) fn preview(&self, alloc: Global, name: &Text24) -> Result<Option<Answer>, Memory>
+        ensures { IfOk result (λ a. a ≡ option_map (λ p. shown p.values) (contents_at self.now name.now)) }
+    {
+        match self.bound(name) {
+            Some(bound) => Ok(Some(bound.preview(alloc)?)),
+            None => Ok(None),
         }
     }
 

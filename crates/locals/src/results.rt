@@ -5,7 +5,6 @@ ghost use Rattle.plain_model.specs.declared.history.Refusal.{Refusal};
 ghost use Rattle.plain_model.specs.Locals.{new_given, let_given};
 
 use crate::Bound;
-use collections::Collection;
 use imm_base::{Edit, Memory, Text24};
 use plain_model::{Answer, Kind, Refusal};
 use std::alloc::Global;
@@ -30,12 +29,12 @@ pub(crate) fn answer_only(answer: Answer) -> LocalResult
     }
 }
 
-/// An answer, and a name bound to a collection.
-pub(crate) fn answer_and_bind(answer: Answer, name: Text24, value: Collection) -> LocalResult
-    ensures { result ≡ record { answer = answer; binds = Some (name, Bound.Collection value) } }
+/// An answer, and a name that is bound.
+pub(crate) fn answer_and_bind(answer: Answer, name: Text24, value: Bound) -> LocalResult
+    ensures { result ≡ record { answer = answer; binds = Some (name, value) } }
 {
     LocalResult {
         answer,
-        binds: Some((name, Bound::Collection(value))),
+        binds: Some((name, value)),
     }
 }

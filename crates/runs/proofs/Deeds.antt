@@ -228,20 +228,24 @@ may_call decls c m name call e can =
 -- ---- local commands
 
 -- a command that can be answered is one of those that are built
-local_deed : (reports : List CellReport) (n o : ℕ) (c : Command) (m : Locals) → can_run c ≡ true → deed_of reports n o c m ≡ option_map (done_locally o c) (local c m)
+local_deed : (reports : List CellReport) (n o : ℕ) (c : Command) (m : Locals) → can_run c m ≡ true → deed_of reports n o c m ≡ option_map (done_locally o c) (local c m)
 local_deed reports n o (commands.New x kind src from) m e = refl
 local_deed reports n o (commands.Let y x op from) m e = refl
 local_deed reports n o (commands.Rekey y x comparer) m e = refl
 local_deed reports n o (commands.Ask x query from) m e = refl
 local_deed reports n o (commands.Show x) m e = refl
+local_deed reports n o (commands.FrozenSet x eq src from) m e = refl
+local_deed reports n o (commands.FrozenMap x eq src from) m e = refl
 local_deed reports n o _ m e = absurd (clash false e refl)
 
-answer_leaves : (decls : List CellDecl) (c : Command) (s after : Locals) → can_run c ≡ true → IsAnswered c s after → Leaves decls c s after
+answer_leaves : (decls : List CellDecl) (c : Command) (s after : Locals) → can_run c s ≡ true → IsAnswered c s after → Leaves decls c s after
 answer_leaves decls (commands.New x kind src from) s after e h = h
 answer_leaves decls (commands.Let y x op from) s after e h = h
 answer_leaves decls (commands.Rekey y x comparer) s after e h = h
 answer_leaves decls (commands.Ask x query from) s after e h = h
 answer_leaves decls (commands.Show x) s after e h = h
+answer_leaves decls (commands.FrozenSet x eq src from) s after e h = h
+answer_leaves decls (commands.FrozenMap x eq src from) s after e h = h
 answer_leaves decls _ s after e h = absurd (clash false e refl)
 
 pub answer_is_done : {S : Type 0} (makes : S → Note → S → Type 0) (decls : List CellDecl) (s : S) (o : ℕ) (c : Command) (w w' : Worker) → AnswersLocally o c w w' → IsDone makes decls o c s w s w'

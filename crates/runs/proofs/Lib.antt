@@ -3,3 +3,4 @@ pub mod Parts
 pub mod OneCell
 pub mod OneRun
 pub mod OneSteps
+pub mod NotedLines

@@ -17,12 +17,12 @@ use Rattle.plain_model.specs.Work.{Deed, calls_at, line_of, value_then, work_fro
 use Rattle.plain_model.specs.Lawful.{Lawful, IsCellRun, HasWorked, IsWorkOf, parts_of}
 use Rattle.plain_model.proofs.HistorySteps.{value_there, line_found, no_probes}
 use Rattle.plain_model.proofs.HistorySteps as steps
-use Rattle.plain_model.proofs.OneWorker.{parts_of_one}
 use Rattle.runs.specs.declared.cell_run.CellRun.{CellRun}
 use Rattle.runs.specs.declared.one_thread.OneThread.{OneThread}
-use Rattle.runs.specs.Notes.{Note, Connects, note_at, notes_at, IsReported}
+use Rattle.runs.specs.Notes.{Note, Connects, IsReported, lines_at}
 use Rattle.runs.specs.Places.{decls_in}
 use Rattle.runs.specs.Works.{MatchCalls, WorkIsDone}
+use Rattle.runs.proofs.NotedLines.{lines_front, calls_at_lines}
 use Rattle.runs.specs.OneThread.{IsEarlier, IsSoFar, GoesOnBy, report_of, AreSoFar, CallsOne}
 
 -- ---- lists by index
@@ -61,12 +61,6 @@ length_set (x ∷ xs) zero a = refl
 length_set (x ∷ xs) (suc i) a = ap suc (length_set xs i a)
 
 -- ---- a cell, call by call
-
-abbrev pub line_at : ℕ → Note → Option Line
-line_at k n = if n.place == k then Some n.line else None
-
-abbrev pub lines_at : ℕ → List Note → List Line
-lines_at k ns = filter_map (line_at k) ns
 
 -- a cell went on by these lines
 pub record GoesOn (ls : List Line) (c d : CellRun) : Type 0 where
@@ -115,14 +109,6 @@ step s t n one k d lt = split (eqb n.place k) refl
 
 count_kept : (s t : OneThread) (n : Note) → CallsOne s n t → length t.cells.items ≡ length s.cells.items
 count_kept s t n one = ap length one.cells ∙ length_set s.cells.items n.place one.after
-
--- lines in front of lines
-lines_front : (k : ℕ) (n : Note) (ns : List Note) → lines_at k (n ∷ ns) ≡ lines_at k (n ∷ []) ++ lines_at k ns
-lines_front k n ns = split (eqb n.place k)
-  where
-    split : (b : Bool) → cons_option (if b then Some n.line else None) (lines_at k ns) ≡ cons_option (if b then Some n.line else None) [] ++ lines_at k ns
-    split true = refl
-    split false = refl
 
 pub grow : (ns : List Note) (s t : OneThread) → Connects CallsOne s ns t → (k : ℕ) (d : CellRun) → k < length s.cells.items
     → GoesOn (lines_at k ns) (get_or s.cells.items k d) (get_or t.cells.items k d) × (length t.cells.items ≡ length s.cells.items)
@@ -211,22 +197,13 @@ calls_of_one o (l ∷ h) all =
     ap (λ b. map numbered (cond b (l ∷ filter (λ x. eqb x.caller 1) h) (filter (λ x. eqb x.caller 1) h))) (eq-eqb l.caller 1 all.0.caller)
     ∙ ap (λ (xs : List Numbered). numbered l ∷ xs) (calls_of_one o h all.1)
 
-calls_at_lines : (k : ℕ) (ns : List Note) → map numbered (lines_at k ns) ≡ notes_at k ns
-calls_at_lines k [] = refl
-calls_at_lines k (n ∷ ns) = split (eqb n.place k) (calls_at_lines k ns)
-  where
-    split : (b : Bool) → map numbered (lines_at k ns) ≡ notes_at k ns
-        → map numbered (cons_option (if b then Some n.line else None) (lines_at k ns)) ≡ cons_option (if b then Some (numbered n.line) else None) (notes_at k ns)
-    split true e = ap (λ (xs : List Numbered). numbered n.line ∷ xs) e
-    split false e = e
-
 cells_reported : (cells : List CellRun) → map (λ c. c.cell) (map report_of cells) ≡ map (λ c. c.decl) cells
 cells_reported [] = refl
 cells_reported (c ∷ cells) = ap (λ (ds : List CellDecl). c.decl ∷ ds) (cells_reported cells)
 
 -- the report of what was done
 pub run_is_lawful : (script : Script) (s t : OneThread) (o : ℕ) (lines : List LocalLine) → map (λ c. c.decl) s.cells.items ≡ script.cells → AllByRecursion (λ c. c.lines ≡ []) s.cells.items → AreSoFar t o
-    → WorkIsDone CallsOne script.cells (map (λ p. p.commands) script.parts) s t lines → Lawful script 1 (record { workers = 1; cells = map report_of t.cells.items; locals = lines ∷ [] })
+    → WorkIsDone CallsOne script.cells (parts_of 1 1 script.parts) s t lines → Lawful script 1 (record { workers = 1; cells = map report_of t.cells.items; locals = lines ∷ [] })
 run_is_lawful script s t o lines declared empty far w = record {
   workers = refl;
   cells = decls;
@@ -267,7 +244,7 @@ run_is_lawful script s t o lines declared empty far w = record {
     works : (k : ℕ) → k < 1 → HasWorked (k + 1) (work_from reports (k + 1) 1 (parts_of (k + 1) 1 script.parts)) reports (slice_get (lines ∷ []) k)
     works zero h =
         let all : work_from reports 1 1 (parts_of 1 1 script.parts) ≡ Some w.deeds =
-        ap (work_from reports 1 1) (parts_of_one script.parts) ∙ w.done 1 reports decls (all_reported w.notes s t o w.connects far) in
+        w.done 1 reports decls (all_reported w.notes s t o w.connects far) in
         subst (λ d. HasWorked 1 d reports (Some lines)) (sym all)
         (record { lines = sym w.lines; calls = all_map report_of (λ c. Whole (calls_at c.cell.name w.deeds) 1 c.lines) t.cells.items (all_by_index (λ c. Whole (calls_at c.decl.name w.deeds) 1 c.lines) t.cells.items whole) })
     works (suc k) h = absurd (omega arith)

@@ -1,19 +1,21 @@
 -- The commands of a part, and the parts, one after another.
-use Rattle.std.proofs.Common.{◌≡◌, ℕ, zero, suc, ◌+◌, ◌<◌, List, [], ◌∷◌, ◌++◌, length, get_or, None, Some, refl, ap, sym, subst, ◌∙◌, arith, append_assoc}
-use Rattle.std.specs.Prelude.{Option, option_map, map, filter_map, slice_index_or}
+use Rattle.std.proofs.Common.{◌≡◌, ℕ, zero, suc, ◌+◌, ◌<◌, ◌≤◌, Bool, true, false, List, [], ◌∷◌, ◌++◌, length, take, get_or, None, Some, refl, ap, sym, subst, ◌∙◌, arith, append_assoc}
+use Rattle.std.specs.Prelude.{◌%◌, ◌==◌, if◌then◌else◌, Option, option_map, map, filter_map, slice_index_or}
 use Rattle.std.specs.List.{AllByRecursion, cons_option}
-use Rattle.std.proofs.lemmas.List.{append-nil}
+use Rattle.std.proofs.lemmas.List.{append-nil, length-take-le, take_more}
 use Rattle.plain_model.specs.declared.commands.Command.{Command}
 use Rattle.plain_model.specs.declared.report.CellDecl.{CellDecl}
 use Rattle.plain_model.specs.declared.report.CellReport.{CellReport}
 use Rattle.plain_model.specs.declared.report.LocalLine.{LocalLine}
+use Rattle.plain_model.specs.declared.report.Part.{Part}
+use Rattle.plain_model.specs.Lawful.{parts_from, parts_of}
 use Rattle.plain_model.specs.Locals.{◌>>=◌, Locals, no_locals}
 use Rattle.plain_model.specs.Work.{Deed, as_local_line, call_at, deed_of, deeds_of, work_from, local_lines, calls_at}
 use Rattle.runs.specs.declared.work.Worker.{Worker}
 use Rattle.runs.specs.Places.{decls_in}
 use Rattle.runs.specs.Notes.{Note, Connects, note_at, notes_at, IsReported}
 use Rattle.runs.specs.Needs.{Leaves, CanDoAll}
-use Rattle.runs.specs.Works.{MatchCalls, IsDone, PartIsDone, WorkIsDone, ordinal_after}
+use Rattle.runs.specs.Works.{MatchCalls, IsDone, PartIsDone, WorkIsDone, ordinal_after, commands_for}
 
 filter_map_append : {A B : Type 0} (f : A → Option B) (xs ys : List A) → filter_map f (xs ++ ys) ≡ filter_map f xs ++ filter_map f ys
 filter_map_append f [] ys = refl
@@ -148,3 +150,66 @@ pub at_index : {A : Type 0} (P : A → Type 0) (xs : List A) (i : ℕ) (d : A) �
 at_index P [] i d all within = absurd (omega arith)
 at_index P (x ∷ xs) zero d all within = all.0
 at_index P (x ∷ xs) (suc i) d all within = at_index P xs i d all.1 (omega arith)
+
+-- ---- the parts of one worker among all
+
+-- the parts from the number i on, where those of other workers have no commands
+abbrev pub parts_for : ℕ → ℕ → ℕ → List Part → List (List Command)
+parts_for w n i [] = []
+parts_for w n i (p ∷ ps) = commands_for w n i p ∷ parts_for w n (i + 1) ps
+
+parts_on : (w n i : ℕ) (ps : List Part) (p : Part) → parts_for w n i (ps ++ p ∷ []) ≡ parts_for w n i ps ++ commands_for w n (i + length ps) p ∷ []
+parts_on w n i [] p = let at : i ≡ i + 0 = omega arith in ap (λ j. commands_for w n j p ∷ []) at
+parts_on w n i (q ∷ ps) p =
+    let at : i + 1 + length ps ≡ i + suc (length ps) = omega arith in
+    ap (λ cs. commands_for w n i q ∷ cs) (parts_on w n (i + 1) ps p ∙ ap (λ j. parts_for w n (i + 1) ps ++ commands_for w n j p ∷ []) at)
+
+-- the first parts, with the next one
+pub parts_more : (w n place i : ℕ) (ps : List Part) (p : Part) → i < length ps → p ≡ get_or ps i p → place ≡ i + 1
+    → parts_for w n 1 (take (i + 1) ps) ≡ parts_for w n 1 (take i ps) ++ commands_for w n place p ∷ []
+parts_more w n place i ps p within is at =
+    let many : length (take i ps) ≡ i = length-take-le i ps (omega arith) in
+    let here : 1 + length (take i ps) ≡ place = omega arith in
+    ap (parts_for w n 1) (take_more ps i p within ∙ ap (λ (q : Part). take i ps ++ q ∷ []) (sym is))
+    ∙ (parts_on w n 1 (take i ps) p ∙ ap (λ j. parts_for w n 1 (take i ps) ++ commands_for w n j p ∷ []) here)
+
+-- a worker has no more commands of a part than there are
+pub few_for : (w n i : ℕ) (p : Part) (many : ℕ) → length p.commands ≤ many → length (commands_for w n i p) ≤ many
+few_for w n i p many few = split (i % n == w % n)
+  where
+    split : (b : Bool) → length (if b then p.commands else []) ≤ many
+    split true = few
+    split false = omega arith
+
+-- what can be done of a part whose commands can be done
+pub can_for : (decls : List CellDecl) (w n i : ℕ) (p : Part) → CanDoAll decls p.commands no_locals → CanDoAll decls (commands_for w n i p) no_locals
+can_for decls w n i p can = split (i % n == w % n)
+  where
+    split : (b : Bool) → CanDoAll decls (if b then p.commands else []) no_locals
+    split true = can
+    split false = tt
+
+-- parts without commands come to nothing
+work_for : (reports : List CellReport) (k w n i o : ℕ) (ps : List Part) → work_from reports k o (parts_for w n i ps) ≡ work_from reports k o (parts_from w n i ps)
+work_for reports k w n i o [] = refl
+work_for reports k w n i o (p ∷ ps) = split (i % n == w % n) (λ j. work_for reports k w n (i + 1) j ps)
+  where
+    split : (b : Bool) → ((j : ℕ) → work_from reports k j (parts_for w n (i + 1) ps) ≡ work_from reports k j (parts_from w n (i + 1) ps))
+        → work_from reports k o ((if b then p.commands else []) ∷ parts_for w n (i + 1) ps)
+        ≡ work_from reports k o (if b then p.commands ∷ parts_from w n (i + 1) ps else parts_from w n (i + 1) ps)
+    split true on = ap (λ rest. deeds_of reports k o p.commands no_locals >>= λ ds. option_map (λ es. ds ++ es) rest) (on (o + length p.commands))
+    split false on =
+        let same : o + 0 ≡ o = omega arith in
+        sym (nothing_before (work_from reports k (o + 0) (parts_for w n (i + 1) ps))) ∙ (ap (λ j. work_from reports k j (parts_for w n (i + 1) ps)) same ∙ on o)
+
+-- so the work is that of the worker's parts
+pub work_ends : {S : Type 0} (makes : S → Note → S → Type 0) (decls : List CellDecl) (w n : ℕ) (ps : List Part) (s t : S) (ls : List LocalLine)
+    → WorkIsDone makes decls (parts_for w n 1 ps) s t ls → WorkIsDone makes decls (parts_of w n ps) s t ls
+work_ends makes decls w n ps s t ls d = record {
+  notes = d.notes;
+  deeds = d.deeds;
+  connects = d.connects;
+  lines = d.lines;
+  calls = d.calls;
+  done = λ k reports at stands. sym (work_for reports k w n 1 1 ps) ∙ d.done k reports at stands;
+}

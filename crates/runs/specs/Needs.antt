@@ -26,7 +26,7 @@ pub record CanPublish (decls : List CellDecl) (cell x : Name) (s : Locals) : Typ
 
 -- the command is one of those that are built, and the model gives something
 pub record CanAnswer (c : Command) (s : Locals) : Type 0 where
-  pub built : can_run c ≡ true
+  pub built : can_run c s ≡ true
   pub given : Given
   pub is : local c s ≡ Some given
 

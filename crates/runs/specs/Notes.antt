@@ -33,6 +33,13 @@ note_at k n = if n.place == k then Some (numbered n.line) else None
 abbrev pub notes_at : ℕ → List Note → List Numbered
 notes_at k ns = filter_map (note_at k) ns
 
+-- the lines of the cell at a place
+abbrev pub line_at : ℕ → Note → Option Line
+line_at k n = if n.place == k then Some n.line else None
+
+abbrev pub lines_at : ℕ → List Note → List Line
+lines_at k ns = filter_map (line_at k) ns
+
 -- the call has its line in the history of its cell, and what was read is the value there
 pub record IsReported (w : ℕ) (reports : List CellReport) (n : Note) : Type 0 where
   pub report : CellReport

@@ -1,5 +1,5 @@
 -- What commands come to, by what the model says of them in whatever reports have the calls.
-use Rattle.std.specs.Prelude.{◌≡◌, true, ℕ, ◌+◌, ◌<◌, List, [], ◌∷◌, ◌++◌, length, Some, slice_index_or}
+use Rattle.std.specs.Prelude.{◌≡◌, true, ℕ, ◌+◌, ◌%◌, ◌==◌, ◌<◌, if◌then◌else◌, List, [], ◌∷◌, ◌++◌, length, Some, slice_index_or}
 use Rattle.std.specs.List.{AllByRecursion}
 use Rattle.plain_model.specs.declared.commands.Command.{Command}
 use Rattle.plain_model.specs.declared.commands.Command.TheVariants as commands
@@ -10,6 +10,7 @@ use Rattle.plain_model.specs.Names.{Name}
 use Rattle.plain_model.specs.declared.report.CellDecl.{CellDecl}
 use Rattle.plain_model.specs.declared.report.CellReport.{CellReport}
 use Rattle.plain_model.specs.declared.report.LocalLine.{LocalLine}
+use Rattle.plain_model.specs.declared.report.Part.{Part}
 use Rattle.plain_model.specs.Locals.{no_locals, gives, local}
 use Rattle.plain_model.specs.Work.{Deed, deed_of, deeds_of, work_from, local_lines, calls_at}
 use Rattle.locals.specs.Results.{can_run}
@@ -30,7 +31,7 @@ refused_line o cell x n = record { ordinal = o; command = commands.Publish cell 
 -- A local command was answered as the model says.
 pub record AnswersLocally (o : ℕ) (c : Command) (w w' : Worker) : Type 0 where
   pub answer : Answer
-  pub built : can_run c ≡ true
+  pub built : can_run c w.names ≡ true
   pub is : local c w.names ≡ Some (gives answer w'.names)
   pub lines : w'.lines ≡ w.lines ++ record { ordinal = o; command = c; answer = answer } ∷ []
 
@@ -69,3 +70,7 @@ pub record WorkIsDone {S : Type 0} (makes : S → Note → S → Type 0) (decls 
 abbrev pub ordinal_after : ℕ → List (List Command) → ℕ
 ordinal_after o [] = o
 ordinal_after o (p ∷ ps) = ordinal_after (o + length p) ps
+
+-- the commands of the part with the number i, if it is one of those of the worker w of n, and else none
+abbrev pub commands_for : ℕ → ℕ → ℕ → Part → List Command
+commands_for w n i p = if i % n == w % n then p.commands else []

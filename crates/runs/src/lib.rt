@@ -11,3 +11,4 @@ mod work;
 
 pub use cells::Cells;
 pub use run::run_alone;
+pub use work::run_parts;

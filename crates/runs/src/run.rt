@@ -55,7 +55,7 @@ pub fn run_alone(alloc: Global, script: &Script) -> Result<Report, Memory>
     let parts = script.parts.as_slice();
     let runs = cells_of(alloc, decls)?;
     let mut cells = OneThread { cells: runs };
-    let lines = run_parts(alloc, decls, &mut cells, parts)?;
+    let lines = run_parts(alloc, decls, &mut cells, parts, 1, 1)?;
     let reports = reports_of(alloc, cells.cells)?;
     let mut locals = Listed::new(alloc);
     locals.push(lines)?;

@@ -1,9 +1,10 @@
 //! What a worker's commands do, one after another.
 ghost use Rattle.std.specs.Prelude.{◌≡◌, ◌+◌, ◌<◌, ◌≤◌, ◌^◌, true, OnOk, IfOk, Some, None, ◌∷◌, [], ◌++◌};
-ghost use Rattle.std.specs.Prelude.{length, map, nat_lt};
+ghost use Rattle.std.specs.Prelude.{length, nat_lt};
 ghost use Rattle.std.specs.List.{AllByRecursion};
 ghost use Rattle.plain_model.specs.declared.limits.TheConstants.{COMMANDS_LIMIT, PARTS_LIMIT, PUBLISH_LIMIT};
 ghost use Rattle.plain_model.specs.declared.commands.Command.TheVariants as commands;
+ghost use Rattle.plain_model.specs.Lawful.{parts_of};
 ghost use Rattle.plain_model.specs.Locals.{no_locals};
 ghost use Rattle.plain_model.specs.Work.{call_of};
 ghost use Rattle.cell_calls.specs.Calls.{plain_call};
@@ -11,7 +12,7 @@ ghost use Rattle.runs.specs.Calls.{MayCall};
 ghost use Rattle.runs.specs.Places.{AreApart, cell_place, kinds_of};
 ghost use Rattle.runs.specs.Needs.{CanAnswer, CanCallOrAnswer, CanDo, CanDoAll, CanPublish};
 ghost use Rattle.runs.specs.Notes.{Makes};
-ghost use Rattle.runs.specs.Works.{AnswersLocally, IsDone, PartIsDone, WorkIsDone};
+ghost use Rattle.runs.specs.Works.{AnswersLocally, IsDone, PartIsDone, WorkIsDone, commands_for};
 
 use crate::calls::call_of;
 use crate::cells::{Cells, cell_place};
@@ -243,33 +244,51 @@ fn run_part<T: Cells>(
     Ok(())
 }
 
-/// Does the parts, one after another, and answers the worker's local lines.
-pub(crate) fn run_parts<T: Cells>(
+// The commands of the part with this number, if the worker does it, and else none.
+fn commands_for(part: &Part, number: u32, worker: u32, workers: u32) -> &[Command]
+    requires { 0 < workers }
+    ensures { result.now ≡ commands_for worker workers number part.now }
+{
+    if number % workers == worker % workers {
+        return part.commands.as_slice();
+    }
+    &[]
+}
+
+/// Does those of the parts that are this worker's among so many, one after another, and answers the
+/// worker's local lines. Workers are counted from 1. `Err` is want of memory; which calls were made
+/// then no clause says.
+pub fn run_parts<T: Cells>(
     alloc: Global,
     decls: &[CellDecl],
     cells: &mut T,
     parts: &[Part],
+    number: u32,
+    workers: u32,
 ) -> Result<Listed<LocalLine>, Memory>
     requires apart { AreApart decls.now }
     requires kinds { T.kinds cells.old ≡ kinds_of decls.now }
     requires ready { T.ready cells.old 1 }
+    requires workers { 0 < workers }
     requires count { length parts.now ≤ PARTS_LIMIT }
     requires few { AllByRecursion (λ p. length p.commands ≤ COMMANDS_LIMIT) parts.now }
     requires can { AllByRecursion (λ p. CanDoAll decls.now p.commands no_locals) parts.now }
     ensures kinds { OnOk result (T.kinds cells.new ≡ kinds_of decls.now) }
     ensures ready { OnOk result ((o : _) × T.ready cells.new o) }
     ensures done { IfOk result (λ lines. WorkIsDone T.makes decls.now
-        (map (λ p. p.commands) parts.now) cells.old cells.new lines) }
+        (parts_of number workers parts.now) cells.old cells.new lines) }
 {
     let mut worker = Worker {
         names: Locals::new(alloc),
         lines: Listed::new(alloc),
     };
     let mut ordinal = 1;
+    let mut place = 1;
     for part in parts {
-        let commands = part.commands.as_slice();
+        let commands = commands_for(part, place, number, workers);
         run_part(alloc, decls, cells, &mut worker, ordinal, commands)?;
         ordinal += commands.len() as u64;
+        place += 1;
     }
     Ok(worker.lines)
 }

@@ -1,10 +1,12 @@
 -- What a check that is passed says of a command's names, and what the command binds.
 use Rattle.std.proofs.Common.{◌≡◌, Bool, true, false, List, Option, Some, None, Ok, refl, ap, sym, ◌∙◌}
+use Rattle.imm_base.specs.declared.comparers.ValEq.{ValEq}
 use Rattle.plain_model.specs.declared.plain.Kind.{Kind}
+use Rattle.plain_model.specs.declared.plain.Kind.TheVariants as kinds
 use Rattle.plain_model.specs.declared.plain.Comparer.{Comparer}
 use Rattle.plain_model.specs.declared.plain.Values.{Values}
 use Rattle.plain_model.specs.declared.kinds.ItemKind.{ItemKind}
-use Rattle.plain_model.specs.declared.kinds.ItemKind.TheVariants.{Elements}
+use Rattle.plain_model.specs.declared.kinds.ItemKind.TheVariants.{Elements, Pairs}
 use Rattle.plain_model.specs.declared.commands.PlainOp.{PlainOp}
 use Rattle.plain_model.specs.declared.commands.Query.{Query}
 use Rattle.plain_model.specs.declared.commands.Command.{Command}
@@ -13,7 +15,7 @@ use Rattle.plain_model.specs.declared.report.CellDecl.{CellDecl}
 use Rattle.plain_model.specs.declared.names.Class.{Class}
 use Rattle.plain_model.specs.declared.names.Class.TheVariants as classes
 use Rattle.plain_model.specs.Comparers.{with_comparer}
-use Rattle.plain_model.specs.Kinds.{is_kind, items_of_kind, items_of_op, is_items, takes, answers}
+use Rattle.plain_model.specs.Kinds.{is_kind, items_of_kind, items_of_op, is_items, takes}
 use Rattle.plain_model.specs.Names.{Name, Bindings, get, collection_kind, contents_kind}
 use Rattle.script_line.specs.declared.codes.Code.{Code}
 use Rattle.script_line.specs.declared.codes.Code.TheVariants as codes
@@ -22,7 +24,7 @@ use Rattle.script_line.proofs.Judgements.{bind_ok, both_ok}
 use Rattle.script.specs.declared.commands.Called.{Called}
 use Rattle.script.specs.declared.commands.Called.TheVariants as called
 use Rattle.script.specs.Symbols.{Binding, cell_kind, kind_of_cell, class_of, collection_kind_of, contents_kind_of, require, source_fits}
-use Rattle.script.specs.Commands.{if_fits, is_called, call_binding, collection, binding, keeps_class, rebinds, check}
+use Rattle.script.specs.Commands.{if_fits, is_called, call_binding, collection, frozen, class_answers, binding, keeps_class, rebinds, check}
 use Rattle.script.proofs.Cells.{required}
 
 -- ---- names
@@ -163,13 +165,13 @@ rekey_checked cells names y x comparer b e =
 
 pub ask_checked : (cells : List CellDecl) (names : Bindings Class) (x : Name) (query : Query) (from : Option Name) (b : Option Binding)
     → binding cells names (commands.Ask x query from) ≡ Ok b
-    → (k : Kind) × HasContents names x k × (answers k query ≡ true) × HasSource names Elements from × (b ≡ None)
+    → (c : Class) × (get names x ≡ Some c) × (class_answers c query ≡ true) × HasSource names Elements from × (b ≡ None)
 unfolding binding
 ask_checked cells names x query from b e =
-    let r = bind_ok (contents_kind_of names x ⊗ source_fits names Elements from) (λ p. if_fits (answers p.0 query) None) b e in
-    let p = both_ok (contents_kind_of names x) (source_fits names Elements from) r.0 r.1 in
-    let f = fits_ok (answers r.0.0 query) None b r.2 in
-    (r.0.0, contents_found names x r.0.0 p.0, f.0, has_source names Elements from r.0.1 p.1, f.1)
+    let r = bind_ok (class_of names x ⊗ source_fits names Elements from) (λ p. if_fits (class_answers p.0 query) None) b e in
+    let p = both_ok (class_of names x) (source_fits names Elements from) r.0 r.1 in
+    let f = fits_ok (class_answers r.0.0 query) None b r.2 in
+    (r.0.0, some_or_ok codes.Name (get names x) r.0.0 p.0, f.0, has_source names Elements from r.0.1 p.1, f.1)
 
 pub show_checked : (cells : List CellDecl) (names : Bindings Class) (x : Name) (b : Option Binding) → binding cells names (commands.Show x) ≡ Ok b
     → (k : Kind) × HasContents names x k × (b ≡ None)
@@ -178,3 +180,19 @@ show_checked cells names x b e =
     let r = bind_ok (contents_kind_of names x) (λ k. Ok None) b e in
     let same : b ≡ None = cc (r.2) in
     (r.0, contents_found names x r.0 r.1, same)
+
+pub frozen_set_checked : (cells : List CellDecl) (names : Bindings Class) (x : Name) (eq : ValEq) (src : Values) (from : Option Name) (b : Option Binding)
+    → binding cells names (commands.FrozenSet x eq src from) ≡ Ok b → HasSource names Elements from × (b ≡ frozen x (kinds.HSet eq))
+unfolding binding
+frozen_set_checked cells names x eq src from b e =
+    let r = bind_ok (source_fits names Elements from) (λ u. Ok (frozen x (kinds.HSet eq))) b e in
+    let same : b ≡ frozen x (kinds.HSet eq) = cc (r.2) in
+    (has_source names Elements from r.0 r.1, same)
+
+pub frozen_map_checked : (cells : List CellDecl) (names : Bindings Class) (x : Name) (eq : ValEq) (src : Values) (from : Option Name) (b : Option Binding)
+    → binding cells names (commands.FrozenMap x eq src from) ≡ Ok b → HasSource names Pairs from × (b ≡ frozen x (kinds.Dict eq))
+unfolding binding
+frozen_map_checked cells names x eq src from b e =
+    let r = bind_ok (source_fits names Pairs from) (λ u. Ok (frozen x (kinds.Dict eq))) b e in
+    let same : b ≡ frozen x (kinds.Dict eq) = cc (r.2) in
+    (has_source names Pairs from r.0 r.1, same)

@@ -9,5 +9,6 @@ mod TextLines
 mod Passes
 mod Traces
 mod Rereading
+mod Upgraded
 mod Reached
 mod Printed

@@ -8,6 +8,7 @@ use Rattle.plain_model.specs.declared.report.CellDecl.{CellDecl}
 use Rattle.plain_model.specs.declared.report.Part.{Part}
 use Rattle.plain_model.specs.declared.report.Version.{Version}
 use Rattle.plain_model.specs.declared.report.Version.TheVariants as versions
+use Rattle.plain_model.specs.Lawful.{upgrade}
 use Rattle.plain_model.specs.Text.{spaced, line, command_words, decl_words}
 use Rattle.script_line.specs.declared.line.Line.{Line}
 use Rattle.script_line.specs.declared.line.Line.TheVariants as lines
@@ -17,7 +18,7 @@ use Rattle.script.specs.Parser.{start, script_of}
 use Rattle.script.specs.Grammar.{read_lines, read_script}
 use Rattle.script.specs.Printing.{header_text, part_text, canonical_text}
 use Rattle.script.proofs.LineByLine.{a_line}
-use Rattle.script.specs.RoundTrip.{IsReadAgain}
+use Rattle.script.specs.RoundTrip.{IsReadAgain, IsUpgradedReadAgain}
 use Rattle.script_line.proofs.WrittenWords.{AreWords}
 use Rattle.script_line.proofs.ReadAgain.{Words}
 use Rattle.script_line.specs.Written.{written_line}
@@ -25,7 +26,8 @@ use Rattle.script.proofs.TextLines.{lines-written}
 use Rattle.script.proofs.Passes.{IsSaid}
 use Rattle.script.proofs.Traces.{part_trace, trace_of, trace, header_words, begun}
 use Rattle.script.proofs.Rereading.{written, header_is_words, header_read, reread}
-use Rattle.script.proofs.Reached.{all_read}
+use Rattle.script.proofs.Reached.{IsEnded, all_read}
+use Rattle.script.proofs.Upgraded.{in_last_version, made_in_last_version}
 
 -- ---- the text of lines
 
@@ -84,16 +86,24 @@ as_written : (ls : List Line) → map spaced (map written_line ls) ≡ map writt
 as_written [] = refl
 as_written (l ∷ ls) = ap (λ more. written l ∷ more) (as_written ls)
 
+printed_again : (p : Parser) → IsEnded p → read_script (canonical_text (script_of p)) ≡ Ok (script_of p)
+printed_again p is =
+    let m = is.made in
+    let v : Version = m.version in
+    ap read_script (all_written p v m.has is.closed)
+    ∙ ap (read_lines start 1) (lines_of v (map written_line (trace p)) (are_words (trace p) m.said))
+    ∙ ap (λ more. read_lines start 1 (spaced (header_words v) ∷ more)) (as_written (trace p))
+    ∙ header_read (map written (trace p)) v
+    ∙ reread (trace p) (begun v) 2 v p refl m.said m.made is.closed
+
 pub read_again : IsReadAgain
 read_again bytes script e =
     let s = all_read (script_lines bytes) start 1 script (a_line bytes) (inl refl) e in
-    let p : Parser = s.parser in
-    let m = s.ended.made in
-    let v : Version = m.version in
-    ap (λ t. read_script (canonical_text t)) (sym s.same)
-    ∙ ap read_script (all_written p v m.has s.ended.closed)
-    ∙ ap (read_lines start 1) (lines_of v (map written_line (trace p)) (are_words (trace p) m.said))
-    ∙ ap (λ more. read_lines start 1 (spaced (header_words v) ∷ more)) (as_written (trace p))
-    ∙ header_read (map written (trace p)) v m.named
-    ∙ reread (trace p) (begun v) 2 v p refl m.said m.made s.ended.closed
-    ∙ ap Ok s.same
+    ap (λ t. read_script (canonical_text t)) (sym s.same) ∙ printed_again s.parser s.ended ∙ ap Ok s.same
+
+pub upgraded_read_again : IsUpgradedReadAgain
+upgraded_read_again bytes script e =
+    let s = all_read (script_lines bytes) start 1 script (a_line bytes) (inl refl) e in
+    ap (λ t. read_script (canonical_text (upgrade t))) (sym s.same)
+    ∙ printed_again (in_last_version s.parser) (record { made = made_in_last_version s.parser s.ended.made; closed = s.ended.closed })
+    ∙ ap (λ t. Ok (upgrade t)) s.same

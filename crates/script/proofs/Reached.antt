@@ -3,10 +3,8 @@ use Rattle.std.proofs.Common.{◌≡◌, ℕ, ◌+◌, ◌<◌, Bool, true, fals
 use Rattle.std.specs.Prelude.{is_some, is_none}
 use Rattle.std.specs.Prelude.{codes as bytes}
 use Rattle.std.specs.List.{list_all}
-use Rattle.std.specs.Str.{bytes_eq}
 use Rattle.plain_model.specs.declared.report.Script.{Script}
 use Rattle.plain_model.specs.declared.report.Version.{Version}
-use Rattle.plain_model.specs.declared.report.Version.TheVariants as versions
 use Rattle.script_line.specs.declared.codes.Code.{Code}
 use Rattle.script_line.specs.declared.codes.Code.TheVariants.{Header, Word, Structure}
 use Rattle.script_line.specs.declared.line.Line.{Line}
@@ -21,21 +19,10 @@ use Rattle.script.specs.Grammar.{at_line, read_lines}
 use Rattle.script_line.proofs.ReadAgain.{Words}
 use Rattle.script_line.proofs.WrittenLines.{line_of-again}
 use Rattle.script.proofs.Passes.{passes, passes_closed}
-use Rattle.script.proofs.Traces.{header_words, begun, replay, IsMade, made-more}
+use Rattle.script.proofs.Traces.{begun, replay, IsMade, made-more}
 use Rattle.script.proofs.Rereading.{only, more, none_left}
 
 -- ---- one line
-
--- a header that is read is that of the version
-header_names : (ws : Words) (v : Version) → header_version ws ≡ Some v → header_version (header_words v) ≡ Some v
-header_names [] v e = absurd cc
-header_names (a ∷ []) v e = absurd cc
-header_names (a ∷ b ∷ []) v e = by_test (bytes_eq a (bytes "immrun") && bytes_eq b (bytes "1")) e
-  where
-    by_test : (t : Bool) → cond t (Some versions.One) None ≡ Some v → header_version (header_words v) ≡ Some v
-    by_test true h = let same : versions.One ≡ v = cc in subst (λ (w : Version). header_version (header_words w) ≡ Some w) same refl
-    by_test false h = absurd cc
-header_names (a ∷ b ∷ c ∷ ws) v e = absurd cc
 
 -- what one line may do: nothing, the header, or a line
 record IsLineOf (p : Parser) (is_last : Bool) (next : Parser) : Type 0 where
@@ -49,7 +36,6 @@ record IsLineOf (p : Parser) (is_last : Bool) (next : Parser) : Type 0 where
 record IsHeaderOf (p next : Parser) : Type 0 where
   version : Version
   none : p.version ≡ None
-  named : header_version (header_words version) ≡ Some version
   made : next ≡ record p { version = Some version }
 
 record IsNothingOf (p : Parser) (is_last : Bool) (next : Parser) : Type 0 where
@@ -72,7 +58,7 @@ header_of p ws next none e = by_version (header_version ws) refl e
   where
     by_version : (o : Option Version) → header_version ws ≡ o → with_version p o ≡ Ok next → IsHeaderOf p next
     by_version None is h = absurd cc
-    by_version (Some v) is h = record { version = v; none = none; named = header_names ws v is; made = moved (λ (q : Parser). q ≡ record p { version = Some v }) (record p { version = Some v }) next h refl }
+    by_version (Some v) is h = record { version = v; none = none; made = moved (λ (q : Parser). q ≡ record p { version = Some v }) (record p { version = Some v }) next h refl }
 
 significant_of : (p : Parser) (is_last : Bool) (bytes : List ℕ) (ws : Words) (next : Parser) → significant_line p is_last bytes ws ≡ Ok next → IsHeaderOf p next ⊎ IsLineOf p is_last next
 unfolding significant_line
@@ -107,7 +93,7 @@ made_at_header : (p next : Parser) → p ≡ start → IsHeaderOf p next → IsM
 unfolding replay
 made_at_header p next e h =
     let is : begun h.version ≡ next = sym (h.made ∙ ap (λ (q : Parser). record q { version = Some h.version }) e) in
-    subst IsMade is (record { version = h.version; named = h.named; has = refl; said = tt; made = refl })
+    subst IsMade is (record { version = h.version; has = refl; said = tt; made = refl })
 
 after_header : (p next : Parser) → IsReached p → IsHeaderOf p next → IsMade next
 after_header p next (inl e) h = made_at_header p next e h

@@ -31,7 +31,7 @@ use Rattle.script.specs.Lines.{script_lines}
 use Rattle.script.specs.Symbols.{Binding, cell_kind, with_bound}
 use Rattle.script.specs.Commands.{check}
 use Rattle.script.specs.Limits.{is_short, command_is_short, few_enough, contents_fit, may_publish}
-use Rattle.script.specs.Parser.{start, script_of, commands_so_far, checked_cell, line_binding, is_in_place, leaves_open, structure_ok, limits_ok, after, if_room, judgement, with_line, is_allowed, is_passed_over, header_version, with_version, with_header, with_nothing, significant_line, next_line}
+use Rattle.script.specs.Parser.{start, most_of, script_of, commands_so_far, checked_cell, line_binding, is_in_place, leaves_open, structure_ok, limits_ok, after, if_room, judgement, with_line, is_allowed, is_passed_over, header_version, with_version, with_header, with_nothing, significant_line, next_line}
 use Rattle.script.specs.Grammar.{at_line, read_lines, read_script}
 use Rattle.script.specs.Ready.{IsChecked, AreReady, AreDistinct, HasFirst, IsReady}
 use Rattle.script.proofs.Cells.{cell_checked}
@@ -122,9 +122,9 @@ no_parts : (ps : List Part) → length ps ≡ 0 → ps ≡ []
 no_parts [] e = refl
 no_parts (p ∷ ps) e = absurd (omega arith)
 
-could_be_made : (r : Result Plain Refusal) → few_enough r ≡ true → is_ok r ≡ true
-could_be_made (Ok p) e = refl
-could_be_made (Err r) e = absurd cc
+could_be_made : (most : ℕ) (r : Result Plain Refusal) → few_enough most r ≡ true → is_ok r ≡ true
+could_be_made most (Ok p) e = refl
+could_be_made most (Err r) e = absurd cc
 
 sound-cell : (p : Parser) (cell : CellDecl) → IsSound p → cell_kind p.cells cell.name ≡ None → HasFirst cell
     → length p.cells < 16 → p.commands ≡ None → p.parts ≡ [] → IsSound (record p { cells = p.cells ++ cell ∷ [] })
@@ -202,15 +202,15 @@ sound-after p is_last (lines.Cell cell) bound h within binding structure limits 
     let c = cell_checked p.cells cell b.0 b.1 in
     let s = and_parts (is_in_place p (lines.Cell cell)) (not (is_last && leaves_open (lines.Cell cell))) structure in
     let t = and_parts (is_none p.commands) (length p.parts == 0) s.0 in
-    let l = and_parts (ltb (length p.cells) 16 && is_short cell.values) (contents_fit cell) limits in
-    let m = and_parts (ltb (length p.cells) 16) (is_short cell.values) l.0 in
+    let l = and_parts (ltb (length p.cells) 16 && is_short (most_of p) cell.values) (contents_fit (most_of p) cell) limits in
+    let m = and_parts (ltb (length p.cells) 16) (is_short (most_of p) cell.values) l.0 in
     sound-cell p cell h (is_nothing (cell_kind p.cells cell.name) c.0)
-    (record { kind = c.1; within = within; made = could_be_made (made cell.kind cell.values) l.1 }) (ltb-true (length p.cells) 16 m.0)
+    (record { kind = c.1; within = within; made = could_be_made (most_of p) (made cell.kind cell.values) l.1 }) (ltb-true (length p.cells) 16 m.0)
     (is_nothing p.commands t.0) (no_parts p.parts (eqb-true (length p.parts) 0 t.1))
 sound-after p is_last lines.Worker bound h within binding structure limits = sound-worker p bound h (ltb-true (length p.parts) 8 limits)
 sound-after p is_last (lines.Command c) bound h within binding structure limits =
     let s = and_parts (is_some p.commands) (not (is_last && true)) structure in
-    let l = and_parts (ltb (length (commands_so_far p)) 4096 && may_publish (commands_so_far p) c && leb (length (with_bound p.names bound)) 32) (command_is_short c) limits in
+    let l = and_parts (ltb (length (commands_so_far p)) 4096 && may_publish (commands_so_far p) c && leb (length (with_bound p.names bound)) 32) (command_is_short (most_of p) c) limits in
     let m = and_parts (ltb (length (commands_so_far p)) 4096 && may_publish (commands_so_far p) c) (leb (length (with_bound p.names bound)) 32) l.0 in
     let n = and_parts (ltb (length (commands_so_far p)) 4096) (may_publish (commands_so_far p) c) m.0 in
     sound-command p c bound h binding within s.0 (ltb-true (length (commands_so_far p)) 4096 n.0)

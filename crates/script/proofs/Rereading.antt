@@ -74,10 +74,14 @@ header_by : (is_last : Bool) (bytes : List ℕ) (v : Version) → words bytes �
 unfolding next_line significant_line
 header_by is_last bytes v split named = rw split (ap (with_version start) named)
 
-pub header_again : (is_last : Bool) (v : Version) → header_version (header_words v) ≡ Some v → next_line start is_last (spaced (header_words v)) ≡ Ok (begun v)
-header_again is_last v named = header_by is_last (spaced (header_words v)) v (words-spaced (header_words v) (header_is_words v)) named
+header_names : (v : Version) → header_version (header_words v) ≡ Some v
+header_names versions.One = refl
+header_names versions.Two = refl
 
-pub header_read : (rest : List (List ℕ)) (v : Version) → header_version (header_words v) ≡ Some v → read_lines start 1 (spaced (header_words v) ∷ rest) ≡ read_lines (begun v) 2 rest
-header_read [] v named = only start 1 (spaced (header_words v)) ∙ one start 1 true (spaced (header_words v)) [] (begun v) (header_again true v named)
-header_read (next ∷ rest) v named =
-    more start 1 (spaced (header_words v)) next rest ∙ one start 1 false (spaced (header_words v)) (next ∷ rest) (begun v) (header_again false v named)
+header_again : (is_last : Bool) (v : Version) → next_line start is_last (spaced (header_words v)) ≡ Ok (begun v)
+header_again is_last v = header_by is_last (spaced (header_words v)) v (words-spaced (header_words v) (header_is_words v)) (header_names v)
+
+pub header_read : (rest : List (List ℕ)) (v : Version) → read_lines start 1 (spaced (header_words v) ∷ rest) ≡ read_lines (begun v) 2 rest
+header_read [] v = only start 1 (spaced (header_words v)) ∙ one start 1 true (spaced (header_words v)) [] (begun v) (header_again true v)
+header_read (next ∷ rest) v =
+    more start 1 (spaced (header_words v)) next rest ∙ one start 1 false (spaced (header_words v)) (next ∷ rest) (begun v) (header_again false v)

@@ -18,7 +18,7 @@ use Rattle.script_line.specs.Codes.{◌>>=◌}
 use Rattle.script_line.proofs.Judgements.{moved}
 use Rattle.script.specs.declared.parser.Parser.{Parser}
 use Rattle.script.specs.Symbols.{Binding}
-use Rattle.script.specs.Parser.{start, is_in_place, leaves_open, structure_ok, after, with_line, header_version}
+use Rattle.script.specs.Parser.{start, is_in_place, leaves_open, structure_ok, after, with_line}
 use Rattle.script_line.proofs.ReadAgain.{Words}
 use Rattle.script.proofs.Passes.{IsSaid, Passes, passes_so, passes_earlier}
 
@@ -100,7 +100,6 @@ begun version = record start { version = Some version }
 -- its lines, in the order in which they are printed, are said by what is written for them, and make it
 pub record IsMade (p : Parser) : Type 0 where
   pub version : Version
-  pub named : header_version (header_words version) ≡ Some version
   pub has : p.version ≡ Some version
   pub said : AllByRecursion IsSaid (trace p)
   pub made : replay (begun version) (trace p) ≡ Ok p
@@ -127,7 +126,6 @@ made-more p is_last l next m is s =
     let step = passes_so p false l next (passes_earlier p is_last l next s) in
     record {
       version = m.version;
-      named = m.named;
       has = version_next p is_last l next s ∙ m.has;
       said = subst (AllByRecursion IsSaid) (sym order) (all-more IsSaid (trace p) l m.said is);
       made = ap (replay (begun m.version)) order ∙ replay-more (begun m.version) (trace p) l p next m.made step;

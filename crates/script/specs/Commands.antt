@@ -2,7 +2,8 @@
 use Rattle.std.specs.Prelude.{List, Bool, true, false, Option, Some, None, Result, Ok, Err}
 use Rattle.plain_model.specs.declared.plain.Kind.{Kind}
 use Rattle.plain_model.specs.declared.plain.Kind.TheVariants as kinds
-use Rattle.plain_model.specs.declared.kinds.ItemKind.TheVariants.{Elements}
+use Rattle.plain_model.specs.declared.kinds.ItemKind.TheVariants.{Elements, Pairs}
+use Rattle.plain_model.specs.declared.commands.Query.{Query}
 use Rattle.plain_model.specs.declared.commands.Command.{Command}
 use Rattle.plain_model.specs.declared.commands.Command.TheVariants as commands
 use Rattle.plain_model.specs.declared.report.CellDecl.{CellDecl}
@@ -16,7 +17,8 @@ use Rattle.script_line.specs.declared.codes.Code.TheVariants as codes
 use Rattle.script_line.specs.Codes.{◌>>=◌, ◌⊗◌, some_or}
 use Rattle.script.specs.declared.commands.Called.{Called}
 use Rattle.script.specs.declared.commands.Called.TheVariants as called
-use Rattle.script.specs.Symbols.{Binding, kind_of_cell, collection_kind_of, contents_kind_of, source_fits}
+use Rattle.collections.specs.Frozen.{frozen_answers}
+use Rattle.script.specs.Symbols.{Binding, kind_of_cell, class_of, collection_kind_of, contents_kind_of, source_fits}
 
 -- what a command binds, where it goes with the kinds
 abbrev pub if_fits : Bool → Option Binding → Result (Option Binding) Code
@@ -25,6 +27,18 @@ if_fits false bound = Err codes.Kind
 
 abbrev pub collection : Name → Kind → Option Binding
 collection x kind = Some (x, classes.Collection kind)
+
+abbrev pub frozen : Name → Kind → Option Binding
+frozen x kind = Some (x, classes.Frozen kind)
+
+-- ---- questions
+
+-- what a name is bound to answers the question: a builder does as a collection of its kind
+abbrev pub class_answers : Class → Query → Bool
+class_answers (classes.Collection kind) query = answers kind query
+class_answers (classes.Builder kind) query = answers kind query
+class_answers (classes.Frozen kind) query = frozen_answers kind query
+class_answers classes.Walk query = false
 
 -- ---- calls that cells of one kind alone have
 
@@ -64,8 +78,12 @@ binding cells names (commands.Let y x op from) =
 binding cells names (commands.Rekey y x comparer) =
     collection_kind_of names x >>= λ k. some_or codes.Kind (with_comparer k comparer) >>= λ l. Ok (collection y l)
 binding cells names (commands.Ask x query from) =
-    (contents_kind_of names x ⊗ source_fits names Elements from) >>= λ (k, u). if_fits (answers k query) None
+    (class_of names x ⊗ source_fits names Elements from) >>= λ (c, u). if_fits (class_answers c query) None
 binding cells names (commands.Show x) = contents_kind_of names x >>= λ k. Ok None
+binding cells names (commands.FrozenSet x eq src from) =
+    source_fits names Elements from >>= λ u. Ok (frozen x (kinds.HSet eq))
+binding cells names (commands.FrozenMap x eq src from) =
+    source_fits names Pairs from >>= λ u. Ok (frozen x (kinds.Dict eq))
 binding cells names _ = Err codes.Name
 
 -- a name that is bound again keeps its class and its kind, whatever the comparer

@@ -22,13 +22,17 @@ use Rattle.script.specs.declared.parser.Stop.{Stop}
 use Rattle.script.specs.declared.parser.Stop.TheVariants as stops
 use Rattle.script.specs.Symbols.{Binding, cell_kind, require, with_bound}
 use Rattle.script.specs.Commands.{check}
-use Rattle.script.specs.Limits.{is_short, command_is_short, contents_fit, may_publish}
+use Rattle.script.specs.Limits.{seq_limit, is_short, command_is_short, contents_fit, may_publish}
 
 abbrev pub start : Parser
 start = record { version = None; cells = []; parts = []; commands = None; names = [] }
 
+-- the version that the header names; before it, the first one
+abbrev pub version_of : Parser → Version
+version_of p = unwrap_or p.version versions.One
+
 abbrev pub script_of : Parser → Script
-script_of p = record { version = unwrap_or p.version versions.One; cells = p.cells; parts = p.parts }
+script_of p = record { version = version_of p; cells = p.cells; parts = p.parts }
 
 -- the commands of the part that is open
 abbrev pub commands_so_far : Parser → List Command
@@ -67,13 +71,17 @@ structure_ok p is_last line = is_in_place p line && not (is_last && leaves_open 
 
 -- ---- limits: code 7
 
+-- the most numbers of a `seq`, and the most first contents of a cell, by the version
+abbrev pub most_of : Parser → ℕ
+most_of p = seq_limit (version_of p)
+
 -- cells with their first contents, parts, and commands with `publish` and the names of a part
 unfoldable pub limits_ok : Parser → Line → Option Binding → Bool
-limits_ok p (lines.Cell cell) bound = nat_lt (length p.cells) CELLS_LIMIT && is_short cell.values && contents_fit cell
+limits_ok p (lines.Cell cell) bound = nat_lt (length p.cells) CELLS_LIMIT && is_short (most_of p) cell.values && contents_fit (most_of p) cell
 limits_ok p lines.Worker bound = nat_lt (length p.parts) PARTS_LIMIT
 limits_ok p (lines.Command c) bound =
     nat_lt (length (commands_so_far p)) COMMANDS_LIMIT && may_publish (commands_so_far p) c
-    && nat_le (length (with_bound p.names bound)) NAMES_LIMIT && command_is_short c
+    && nat_le (length (with_bound p.names bound)) NAMES_LIMIT && command_is_short (most_of p) c
 limits_ok p lines.End bound = true
 
 -- ---- what a line makes of it
@@ -126,9 +134,16 @@ abbrev pub is_passed_over : List (List ℕ) → Bool
 is_passed_over [] = true
 is_passed_over (first ∷ ws) = is_comment first
 
+-- the version that a word names
+abbrev pub named_version : List ℕ → Option Version
+named_version word =
+    if bytes_eq word (bytes "1") then Some versions.One
+    else if bytes_eq word (bytes "2") then Some versions.Two
+    else None
+
 -- the language and its version
 abbrev pub header_version : List (List ℕ) → Option Version
-header_version (a ∷ b ∷ []) = if bytes_eq a (bytes "immrun") && bytes_eq b (bytes "1") then Some versions.One else None
+header_version (a ∷ b ∷ []) = if bytes_eq a (bytes "immrun") then named_version b else None
 header_version ws = None
 
 -- A line that is passed over is wrong where it is the last one and a header or an `end` is missing.

@@ -3,10 +3,13 @@
 ghost use Rattle.std.specs.Prelude.{◌≡◌};
 ghost use Rattle.std.specs.Option.{option_copied};
 ghost use Rattle.plain_model.specs.declared.commands.Command.TheVariants as commands;
-ghost use Rattle.script.specs.Commands.{if_fits, is_called, call_binding, collection, binding, keeps_class, rebinds, check};
+ghost use Rattle.script.specs.Commands.{if_fits, is_called, call_binding, collection, frozen, class_answers, binding, keeps_class, rebinds, check};
 
-use crate::symbols::{Binding, collection_kind_of, contents_kind_of, kind_of_cell, source_fits};
-use imm_base::Text24;
+use crate::symbols::{
+    Binding, class_of, collection_kind_of, contents_kind_of, kind_of_cell, source_fits,
+};
+use collections::frozen_answers;
+use imm_base::{Text24, ValEq};
 use plain_model::{
     CellDecl, Class, Command, Comparer, ItemKind, Kind, Names, PlainOp, Query, Values,
 };
@@ -23,6 +26,12 @@ fn collection(name: &Text24, kind: Kind) -> Option<Binding>
     ensures { result ≡ collection name.now kind }
 {
     Some((*name, Class::Collection(kind)))
+}
+
+fn frozen(name: &Text24, kind: Kind) -> Option<Binding>
+    ensures { result ≡ frozen name.now kind }
+{
+    Some((*name, Class::Frozen(kind)))
 }
 
 #[tactic(auto, unfolding(crate::specs::Commands::binding))]
@@ -140,6 +149,17 @@ fn rekey_binding(
     Ok(collection(name, kind))
 }
 
+/// Whether what a name is bound to answers the question.
+fn class_answers(class: Class, query: &Query) -> bool
+    ensures { result ≡ class_answers class query.now }
+{
+    match class {
+        Class::Collection(kind) | Class::Builder(kind) => kind.answers(query),
+        Class::Frozen(kind) => frozen_answers(kind, query),
+        Class::Walk => false,
+    }
+}
+
 #[tactic(auto, unfolding(crate::specs::Commands::binding))]
 fn ask_binding(
     cells: &[CellDecl],
@@ -151,8 +171,8 @@ fn ask_binding(
     ensures { result ≡ binding cells.now names.now (commands.Ask name.now query.now from.now) }
 {
     let source = source_fits(names, ItemKind::Elements, from);
-    let (kind, _) = both_or_least(contents_kind_of(names, name), source)?;
-    if_fits(kind.answers(query), None)
+    let (class, _) = both_or_least(class_of(names, name), source)?;
+    if_fits(class_answers(class, query), None)
 }
 
 #[tactic(auto, unfolding(crate::specs::Commands::binding))]
@@ -165,6 +185,38 @@ fn show_binding(
 {
     let _kind = contents_kind_of(names, name)?;
     Ok(None)
+}
+
+#[tactic(auto, unfolding(crate::specs::Commands::binding))]
+fn frozen_set_binding(
+    cells: &[CellDecl],
+    names: &Names<Class>,
+    name: &Text24,
+    eq: ValEq,
+    values: &Values,
+    from: &Option<Text24>,
+) -> Result<Option<Binding>, Code>
+    ensures { result
+        ≡ binding cells.now names.now (commands.FrozenSet name.now eq values.now from.now) }
+{
+    source_fits(names, ItemKind::Elements, from)?;
+    Ok(frozen(name, Kind::HSet(eq)))
+}
+
+#[tactic(auto, unfolding(crate::specs::Commands::binding))]
+fn frozen_map_binding(
+    cells: &[CellDecl],
+    names: &Names<Class>,
+    name: &Text24,
+    eq: ValEq,
+    pairs: &Values,
+    from: &Option<Text24>,
+) -> Result<Option<Binding>, Code>
+    ensures { result
+        ≡ binding cells.now names.now (commands.FrozenMap name.now eq pairs.now from.now) }
+{
+    source_fits(names, ItemKind::Pairs, from)?;
+    Ok(frozen(name, Kind::Dict(eq)))
 }
 
 /// What a command binds; else the least code that its names and their kinds have.
@@ -195,6 +247,12 @@ fn binding(
         Command::Rekey(name, old, comparer) => rekey_binding(cells, names, name, old, *comparer),
         Command::Ask(name, query, from) => ask_binding(cells, names, name, query, from),
         Command::Show(name) => show_binding(cells, names, name),
+        Command::FrozenSet(name, eq, values, from) => {
+            frozen_set_binding(cells, names, name, *eq, values, from)
+        }
+        Command::FrozenMap(name, eq, pairs, from) => {
+            frozen_map_binding(cells, names, name, *eq, pairs, from)
+        }
         _ => Err(Code::Name),
     }
 }

@@ -1,15 +1,16 @@
 //! What the lines so far have made, and what one line more makes of it.
 
-ghost use Rattle.std.specs.Prelude.{◌≡◌, [], None, Ok, length, OnOk, IfOk};
+ghost use Rattle.std.specs.Prelude.{◌≡◌, ◌≤◌, [], None, Ok, length, OnOk, IfOk};
 ghost use Rattle.std.specs.List.{list_all};
+ghost use Rattle.imm_base.specs.declared.TheConstants.{LIMIT};
 ghost use Rattle.script_line.specs.Words.{bytes_of};
 ghost use Rattle.script_line.specs.Lines.{IsWithin};
 ghost use Rattle.script_line.specs.declared.line.Line.TheVariants as lines;
-ghost use Rattle.script.specs.Parser.{start, script_of, commands_so_far, checked_cell, line_binding, is_in_place, leaves_open, structure_ok, limits_ok, after, if_room, judgement, with_line, Judges, IsStopped};
-ghost use Rattle.script.specs.Parser.{is_allowed, is_comment, is_passed_over, header_version, with_header, with_nothing, significant_line, next_line, IsStep};
+ghost use Rattle.script.specs.Parser.{start, version_of, most_of, script_of, commands_so_far, checked_cell, line_binding, is_in_place, leaves_open, structure_ok, limits_ok, after, if_room, judgement, with_line, Judges, IsStopped};
+ghost use Rattle.script.specs.Parser.{is_allowed, is_comment, is_passed_over, named_version, header_version, with_header, with_nothing, significant_line, next_line, IsStep};
 
 use crate::commands::check;
-use crate::limits::{command_is_short, contents_fit, is_short, may_publish};
+use crate::limits::{command_is_short, contents_fit, is_short, may_publish, seq_limit};
 use crate::symbols::{Binding, bind, cell_kind, count_with, require};
 use imm_base::Memory;
 use plain_model::{
@@ -82,13 +83,25 @@ fn is_passed_over(words: &[&[u8]]) -> bool
     }
 }
 
+fn named_version(word: &[u8]) -> Option<Version>
+    ensures { result ≡ named_version word.now }
+{
+    if word == b"1".as_slice() {
+        Some(Version::One)
+    } else if word == b"2".as_slice() {
+        Some(Version::Two)
+    } else {
+        None
+    }
+}
+
 fn header_version(words: &[&[u8]]) -> Option<Version>
     ensures { result ≡ header_version (bytes_of words.now) }
 {
     match words {
         [name, version] => {
-            if *name == b"immrun".as_slice() && *version == b"1".as_slice() {
-                Some(Version::One)
+            if *name == b"immrun".as_slice() {
+                named_version(version)
             } else {
                 None
             }
@@ -120,12 +133,27 @@ impl Parser {
         }
     }
 
+    /// The version that the header names; before it, the first one.
+    fn version_of(&self) -> Version
+        ensures { result ≡ version_of self.now }
+    {
+        self.version.unwrap_or(Version::One)
+    }
+
+    /// The most numbers of a `seq`, and the most first contents of a cell, by the version.
+    fn most(&self) -> u32
+        ensures number { result ≡ most_of self.now }
+        ensures limit { result ≤ LIMIT }
+    {
+        seq_limit(self.version_of())
+    }
+
     /// The script that the lines have made.
     pub(crate) fn into_script(self) -> Script
         ensures { result ≡ script_of self }
     {
         Script {
-            version: self.version.unwrap_or(Version::One),
+            version: self.version_of(),
             cells: self.cells,
             parts: self.parts,
         }
@@ -190,7 +218,7 @@ impl Parser {
         commands.len() < COMMANDS_LIMIT
             && may_publish(commands, command)
             && count_with(&self.names, bound) <= NAMES_LIMIT
-            && command_is_short(command)
+            && command_is_short(self.most(), command)
     }
 
     /// Whether there is room for a cell with its first contents.
@@ -199,8 +227,9 @@ impl Parser {
         requires { IsWithin (lines.Cell cell.now) }
         ensures { IfOk result (λ ok. ok ≡ limits_ok self.now (lines.Cell cell.now) None) }
     {
-        if self.cells.as_slice().len() < CELLS_LIMIT && is_short(&cell.values) {
-            contents_fit(alloc, cell)
+        let most = self.most();
+        if self.cells.as_slice().len() < CELLS_LIMIT && is_short(most, &cell.values) {
+            contents_fit(alloc, most, cell)
         } else {
             Ok(false)
         }

@@ -29,7 +29,8 @@ pub(crate) fn kind_of_cell(cells: &[CellDecl], name: &Text24) -> Result<Kind, Co
     cell_kind(cells, name).ok_or(Code::Name)
 }
 
-fn class_of(names: &Names<Class>, name: &Text24) -> Result<Class, Code>
+/// The class of what the name is bound to.
+pub(crate) fn class_of(names: &Names<Class>, name: &Text24) -> Result<Class, Code>
     ensures { result ≡ class_of names.now name.now }
 {
     match names.get(name) {

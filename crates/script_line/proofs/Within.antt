@@ -13,6 +13,7 @@ use Rattle.plain_model.specs.declared.commands.Query.TheVariants as queries
 use Rattle.plain_model.specs.declared.commands.Command.{Command}
 use Rattle.plain_model.specs.declared.commands.Command.TheVariants as commands
 use Rattle.plain_model.specs.Sources.{is_within, are_within, op_values, query_values}
+use Rattle.imm_base.specs.declared.comparers.ValEq.{ValEq}
 use Rattle.script_line.specs.declared.codes.Code.{Code}
 use Rattle.script_line.specs.declared.codes.Code.TheVariants.{Value}
 use Rattle.script_line.specs.declared.calls.CallWord.{CallWord}
@@ -45,7 +46,7 @@ use Rattle.script_line.specs.Contents.{kind_word, contents_of, contents}
 use Rattle.script_line.specs.Operations.{op_word, op_of_words, op}
 use Rattle.script_line.specs.Queries.{query_word, query_of_words, query}
 use Rattle.script_line.specs.Calls.{call_of_words}
-use Rattle.script_line.specs.Lines.{keyword_of, line_of_words, line_of, command_values, line_is_within, IsWithin}
+use Rattle.script_line.specs.Lines.{equality_and_source, keyword_of, line_of_words, line_of, command_values, line_is_within, IsWithin}
 use Rattle.script_line.proofs.Judgements.{bind_ok, both_ok, made_ok, moved}
 
 abbrev HasWithin : Values → Type 0
@@ -186,6 +187,12 @@ call-has_none _ ws c e = made_ok CommandHasNone _ _ c e (λ p is. refl)
 
 -- ---- lines
 
+-- what a frozen collection is made of
+frozen-within : (item : ItemKind) (ws : List (List ℕ)) (p : List ℕ × (ValEq × Source)) → one_and_rest local_name (equality_and_source item) ws ≡ Ok p → SourceWithin p.1.1
+frozen-within item ws p e =
+    rest_ok local_name (equality_and_source item) (λ r. SourceWithin r.1) ws p e
+    (λ us r at. rest_ok equality (source_of scopes.Local item) SourceWithin us r at (source_of-within scopes.Local item))
+
 abbrev LineWithin : Line → Type 0
 LineWithin l = line_is_within l ≡ true
 
@@ -206,6 +213,12 @@ line_of_words-within keywords.Let ws l e =
 line_of_words-within keywords.Ask ws l e =
     made_ok LineWithin (one_and_rest local_name query ws) (λ p. lines.Command (commands.Ask p.0 p.1.query p.1.from)) l e
     (λ p is. rest_ok local_name query QueryWithin ws p is query-within)
+line_of_words-within keywords.FrozenSet ws l e =
+    made_ok LineWithin (one_and_rest local_name (equality_and_source item_kinds.Elements) ws) (λ p. lines.Command (commands.FrozenSet p.0 p.1.0 p.1.1.values p.1.1.from)) l e
+    (λ p is. frozen-within item_kinds.Elements ws p is)
+line_of_words-within keywords.FrozenMap ws l e =
+    made_ok LineWithin (one_and_rest local_name (equality_and_source item_kinds.Pairs) ws) (λ p. lines.Command (commands.FrozenMap p.0 p.1.0 p.1.1.values p.1.1.from)) l e
+    (λ p is. frozen-within item_kinds.Pairs ws p is)
 line_of_words-within (keywords.Call call) ws l e =
     made_ok LineWithin (call_of_words call ws) lines.Command l e (λ c is. rw (call-has_none call ws c is) refl)
 line_of_words-within _ ws l e = made_ok LineWithin _ _ l e (λ p is. refl)

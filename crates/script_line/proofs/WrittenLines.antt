@@ -10,21 +10,35 @@ use Rattle.script_line.specs.declared.line.Line.{Line}
 use Rattle.script_line.specs.declared.line.Line.TheVariants as lines
 use Rattle.script_line.specs.declared.sources.Scope.TheVariants as scopes
 use Rattle.script_line.specs.Names.{cell_name, local_name}
-use Rattle.script_line.specs.Comparers.{comparer}
+use Rattle.imm_base.specs.declared.comparers.ValEq.{ValEq}
+use Rattle.imm_base.specs.Spell.{eq_word}
+use Rattle.plain_model.specs.declared.kinds.ItemKind.{ItemKind}
+use Rattle.plain_model.specs.declared.kinds.ItemKind.TheVariants.{Elements, Pairs}
+use Rattle.script_line.specs.declared.sources.Source.{Source}
+use Rattle.script_line.specs.Comparers.{comparer, equality}
+use Rattle.script_line.specs.Sources.{source_of}
+use Rattle.script_line.proofs.WrittenSources.{written_source, source_of-again}
 use Rattle.script_line.specs.Arguments.{no_word, one, two, three, one_and_rest}
 use Rattle.script_line.specs.Contents.{contents}
 use Rattle.script_line.specs.Operations.{op}
 use Rattle.script_line.specs.Queries.{query}
-use Rattle.script_line.specs.Lines.{keyword_of, line_of_words, line_of}
+use Rattle.script_line.specs.Lines.{equality_and_source, keyword_of, line_of_words, line_of}
 use Rattle.script_line.proofs.Judgements.{bind_ok}
 use Rattle.script_line.specs.Written.{written_line, LinesAreReadAgain}
 use Rattle.script_line.proofs.WrittenWords.{words-spaced}
 use Rattle.script_line.proofs.ReadAgain.{Word, Words, AreReadAgain, ReadsAgain, no_word-again, one-again, two-again, three-again, one_and_rest-again, row}
 use Rattle.script_line.proofs.WrittenValues.{cell_name-again, local_name-again}
-use Rattle.script_line.proofs.WrittenContents.{comparer-again, written_contents, contents-again}
+use Rattle.script_line.proofs.WrittenContents.{comparer-again, equality-again, written_contents, contents-again}
 use Rattle.script_line.proofs.WrittenOperations.{written_op, op-again}
 use Rattle.script_line.proofs.WrittenQueries.{written_query, query-again}
 use Rattle.script_line.proofs.WrittenCalls.{call_of_words-again}
+
+-- what a frozen collection is made of
+abbrev written_frozen : ValEq × Source → Words
+written_frozen d = eq_word d.0 ∷ written_source scopes.Local d.1
+
+frozen-again : (item : ItemKind) → ReadsAgain (equality_and_source item) written_frozen
+frozen-again item = one_and_rest-again equality eq_word equality-again (source_of scopes.Local item) (written_source scopes.Local) (source_of-again scopes.Local item)
 
 -- a row for each first word
 line_of_words-again : (k : Keyword) (ws : Words) (l : Line) → line_of_words k ws ≡ Ok l → AreReadAgain line_of written_line l
@@ -51,6 +65,10 @@ line_of_words-again keywords.Ask ws l e =
     row line_of written_line (bytes "ask") refl (one_and_rest local_name query) (λ p. p.0 ∷ written_query p.1) (one_and_rest-again local_name (λ n. n) local_name-again query written_query query-again) (λ p. lines.Command (commands.Ask p.0 p.1.query p.1.from)) (λ a. refl) (λ us. refl) ws l e
 line_of_words-again keywords.Show ws l e =
     row line_of written_line (bytes "show") refl (one local_name) (λ x. x ∷ []) (one-again local_name (λ n. n) local_name-again) (λ x. lines.Command (commands.Show x)) (λ a. refl) (λ us. refl) ws l e
+line_of_words-again keywords.FrozenSet ws l e =
+    row line_of written_line (bytes "frozenset") refl (one_and_rest local_name (equality_and_source Elements)) (λ p. p.0 ∷ written_frozen p.1) (one_and_rest-again local_name (λ n. n) local_name-again (equality_and_source Elements) written_frozen (frozen-again Elements)) (λ p. lines.Command (commands.FrozenSet p.0 p.1.0 p.1.1.values p.1.1.from)) (λ a. refl) (λ us. refl) ws l e
+line_of_words-again keywords.FrozenMap ws l e =
+    row line_of written_line (bytes "frozenmap") refl (one_and_rest local_name (equality_and_source Pairs)) (λ p. p.0 ∷ written_frozen p.1) (one_and_rest-again local_name (λ n. n) local_name-again (equality_and_source Pairs) written_frozen (frozen-again Pairs)) (λ p. lines.Command (commands.FrozenMap p.0 p.1.0 p.1.1.values p.1.1.from)) (λ a. refl) (λ us. refl) ws l e
 
 pub line_of-again : ReadsAgain line_of written_line
 line_of-again [] l e = absurd cc

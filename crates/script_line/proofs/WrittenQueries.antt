@@ -68,6 +68,7 @@ query_of_words-again query_names.HasValue ws q e = plain_row (bytes "hasvalue") 
 query_of_words-again query_names.Keys ws q e = plain_row (bytes "keys") refl no_word (λ u. []) no_word-again (λ u. queries.Keys) (λ a. refl) (λ us. refl) ws q e
 query_of_words-again query_names.Values ws q e = plain_row (bytes "values") refl no_word (λ u. []) no_word-again (λ u. queries.Values) (λ a. refl) (λ us. refl) ws q e
 query_of_words-again query_names.Peek ws q e = plain_row (bytes "peek") refl no_word (λ u. []) no_word-again (λ u. queries.Peek) (λ a. refl) (λ us. refl) ws q e
+query_of_words-again query_names.Strategy ws q e = plain_row (bytes "strategy") refl no_word (λ u. []) no_word-again (λ u. queries.Strategy) (λ a. refl) (λ us. refl) ws q e
 
 pub query-again : ReadsAgain query written_query
 unfolding query

@@ -16,7 +16,12 @@ use Rattle.script_line.specs.declared.sources.Scope.TheVariants as scopes
 use Rattle.script_line.specs.Codes.{◌>>=◌}
 use Rattle.script_line.specs.Table.{entry}
 use Rattle.script_line.specs.Names.{cell_name, local_name}
-use Rattle.script_line.specs.Comparers.{comparer}
+use Rattle.imm_base.specs.declared.comparers.ValEq.{ValEq}
+use Rattle.plain_model.specs.declared.kinds.ItemKind.{ItemKind}
+use Rattle.plain_model.specs.declared.kinds.ItemKind.TheVariants.{Elements, Pairs}
+use Rattle.script_line.specs.declared.sources.Source.{Source}
+use Rattle.script_line.specs.Comparers.{comparer, equality}
+use Rattle.script_line.specs.Sources.{source_of}
 use Rattle.script_line.specs.Arguments.{no_word, one, two, three, one_and_rest}
 use Rattle.script_line.specs.Contents.{contents}
 use Rattle.script_line.specs.Operations.{op}
@@ -46,7 +51,13 @@ keyword_of = entry (
     (bytes "rekey", keywords.Rekey) ∷
     (bytes "ask", keywords.Ask) ∷
     (bytes "show", keywords.Show) ∷
+    (bytes "frozenset", keywords.FrozenSet) ∷
+    (bytes "frozenmap", keywords.FrozenMap) ∷
     [])
+
+-- what a frozen collection is made of
+abbrev pub equality_and_source : ItemKind → List (List ℕ) → Result (ValEq × Source) Code
+equality_and_source item ws = one_and_rest equality (source_of scopes.Local item) ws
 
 -- a row for each first word, with the words that follow it
 abbrev pub line_of_words : Keyword → List (List ℕ) → Result Line Code
@@ -71,6 +82,12 @@ line_of_words keywords.Rekey ws =
 line_of_words keywords.Ask ws =
     one_and_rest local_name query ws >>= λ (x, a). Ok (lines.Command (commands.Ask x a.query a.from))
 line_of_words keywords.Show ws = one local_name ws >>= λ x. Ok (lines.Command (commands.Show x))
+line_of_words keywords.FrozenSet ws =
+    one_and_rest local_name (equality_and_source Elements) ws
+    >>= λ (x, d). Ok (lines.Command (commands.FrozenSet x d.0 d.1.values d.1.from))
+line_of_words keywords.FrozenMap ws =
+    one_and_rest local_name (equality_and_source Pairs) ws
+    >>= λ (x, d). Ok (lines.Command (commands.FrozenMap x d.0 d.1.values d.1.from))
 
 abbrev pub line_of : List (List ℕ) → Result Line Code
 line_of [] = Err Word
@@ -84,6 +101,8 @@ command_values (commands.Update cell op) = op_values op
 command_values (commands.New x kind src from) = Some src
 command_values (commands.Let y x op from) = op_values op
 command_values (commands.Ask x query from) = query_values query
+command_values (commands.FrozenSet x eq src from) = Some src
+command_values (commands.FrozenMap x eq src from) = Some src
 command_values _ = None
 
 -- the integers of each sequence are below 2^63

@@ -43,6 +43,7 @@ query_word = entry (
     (bytes "keys", query_words.Keys) ∷
     (bytes "values", query_words.Values) ∷
     (bytes "peek", query_words.Peek) ∷
+    (bytes "strategy", query_words.Strategy) ∷
     [])
 
 -- ---- a row for each question: those with so many words,
@@ -63,6 +64,7 @@ plain_query query_words.HasValue ws = one value ws >>= λ v. Ok (queries.HasValu
 plain_query query_words.Keys ws = no_word ws >>= λ u. Ok queries.Keys
 plain_query query_words.Values ws = no_word ws >>= λ u. Ok queries.Values
 plain_query query_words.Peek ws = no_word ws >>= λ u. Ok queries.Peek
+plain_query query_words.Strategy ws = no_word ws >>= λ u. Ok queries.Strategy
 plain_query word ws = Err Word
 
 -- and those with values to the end of the line

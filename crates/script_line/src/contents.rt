@@ -72,7 +72,7 @@ fn order_and_source(
 }
 
 /// An equality, and values to the end of the line.
-fn equality_and_source(
+pub(crate) fn equality_and_source(
     alloc: Global,
     scope: Scope,
     item: ItemKind,

@@ -10,20 +10,20 @@ ghost use Rattle.script_line.specs.Operations.{op};
 ghost use Rattle.script_line.specs.Queries.{query};
 ghost use Rattle.script_line.specs.Arguments.{one_and_rest, three};
 ghost use Rattle.script_line.specs.declared.sources.Scope.TheVariants as scopes;
-ghost use Rattle.script_line.specs.Lines.{keyword_of, line_of_words, line_of, IsWithin, command_values};
+ghost use Rattle.script_line.specs.Lines.{equality_and_source, keyword_of, line_of_words, line_of, IsWithin, command_values};
 
 use crate::arguments::{cell_and_local_name, no_word, one_local_name};
 use crate::calls::{CallWord, call_of_words};
 use crate::codes::{Code, both_or_least};
 use crate::comparers::comparer;
-use crate::contents::{KindWithSource, contents};
+use crate::contents::{KindWithSource, contents, equality_and_source};
 use crate::names::{cell_name, local_name};
 use crate::operations::{OpWithSource, op};
 use crate::queries::{QueryWithSource, query};
-use crate::sources::Scope;
+use crate::sources::{Scope, Source};
 use crate::table::entry;
-use imm_base::{Memory, Text24};
-use plain_model::{CellDecl, Command, Comparer, Values};
+use imm_base::{Memory, Text24, ValEq};
+use plain_model::{CellDecl, Command, Comparer, ItemKind, Values};
 use std::alloc::Global;
 
 /// A line with its arguments read.
@@ -50,9 +50,11 @@ pub(crate) enum Keyword {
     Rekey,
     Ask,
     Show,
+    FrozenSet,
+    FrozenMap,
 }
 
-const KEYWORDS: [(&[u8], Keyword); 20] = [
+const KEYWORDS: [(&[u8], Keyword); 22] = [
     (b"cell", Keyword::Cell),
     (b"worker", Keyword::Worker),
     (b"end", Keyword::End),
@@ -73,6 +75,8 @@ const KEYWORDS: [(&[u8], Keyword); 20] = [
     (b"rekey", Keyword::Rekey),
     (b"ask", Keyword::Ask),
     (b"show", Keyword::Show),
+    (b"frozenset", Keyword::FrozenSet),
+    (b"frozenmap", Keyword::FrozenMap),
 ];
 
 fn keyword_of(word: &[u8]) -> Result<Keyword, Code>
@@ -186,6 +190,23 @@ fn name_and_query(
     }
 }
 
+fn name_equality_and_source(
+    alloc: Global,
+    item: ItemKind,
+    words: &[&[u8]],
+) -> Result<Result<(Text24, (ValEq, Source)), Code>, Memory>
+    ensures { IfOk result (λ read. read
+        ≡ one_and_rest local_name (equality_and_source item) (bytes_of words.now)) }
+{
+    match words {
+        [x, rest @ ..] => {
+            let eq_and_source = equality_and_source(alloc, Scope::Local, item, rest)?;
+            Ok(both_or_least(local_name(x), eq_and_source))
+        }
+        [] => Ok(Err(Code::Word)),
+    }
+}
+
 /// What a line says, by its first word and the words behind it.
 fn line_of_words(
     alloc: Global,
@@ -232,6 +253,14 @@ fn line_of_words(
             Command::Ask(name, asked.query, asked.from),
         ))),
         Keyword::Show => Ok(one_local_name(words).map(|name| Line::Command(Command::Show(name)))),
+        Keyword::FrozenSet => Ok(name_equality_and_source(alloc, ItemKind::Elements, words)?.map(|(
+            name,
+            (eq, source),
+        )| { Line::Command(Command::FrozenSet(name, eq, source.values, source.from)) })),
+        Keyword::FrozenMap => Ok(name_equality_and_source(alloc, ItemKind::Pairs, words)?.map(|(
+            name,
+            (eq, source),
+        )| { Line::Command(Command::FrozenMap(name, eq, source.values, source.from)) })),
     }
 }
 
@@ -259,6 +288,8 @@ pub fn command_values(command: &Command) -> Option<&Values>
         Command::New(_, _, values, _) => Some(values),
         Command::Let(_, _, op, _) => op.values(),
         Command::Ask(_, query, _) => query.values(),
+        Command::FrozenSet(_, _, values, _) => Some(values),
+        Command::FrozenMap(_, _, pairs, _) => Some(pairs),
         _ => None,
     }
 }

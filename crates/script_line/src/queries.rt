@@ -36,6 +36,7 @@ pub(crate) enum QueryWord {
     Keys,
     Values,
     Peek,
+    Strategy,
 }
 
 /// A question, with the name of the local collection that gives its values.
@@ -45,7 +46,7 @@ pub(crate) struct QueryWithSource {
     pub from: Option<Text24>,
 }
 
-const QUESTIONS: [(&[u8], QueryWord); 21] = [
+const QUESTIONS: [(&[u8], QueryWord); 22] = [
     (b"count", QueryWord::Count),
     (b"get", QueryWord::Get),
     (b"indexof", QueryWord::IndexOf),
@@ -67,6 +68,7 @@ const QUESTIONS: [(&[u8], QueryWord); 21] = [
     (b"keys", QueryWord::Keys),
     (b"values", QueryWord::Values),
     (b"peek", QueryWord::Peek),
+    (b"strategy", QueryWord::Strategy),
 ];
 
 fn query_word(word: &[u8]) -> Result<QueryWord, Code>
@@ -97,6 +99,7 @@ fn plain_query(word: QueryWord, words: &[&[u8]]) -> Result<Query, Code>
         QueryWord::Keys => no_word(words).map(|()| Query::Keys),
         QueryWord::Values => no_word(words).map(|()| Query::Values),
         QueryWord::Peek => no_word(words).map(|()| Query::Peek),
+        QueryWord::Strategy => no_word(words).map(|()| Query::Strategy),
         _ => Err(Code::Word),
     }
 }

@@ -5,7 +5,7 @@ use Rattle.interlocked.proofs.Moved.{moved, all_moved, room_left, pushed, turned
 use Rattle.interlocked.proofs.passes.unwrap.Goals as goal
 
 pub loop-pass-2-preserved : goal.loop-pass-2-preserved
-loop-pass-2-preserved g c = let inv = c.loop-pass-2.invariant in let taken = c.in-Some-pop.ensures.items in let put = c.push_reserved.ensures.items in let own = c.pass-in-Some-pop in record {
+loop-pass-2-preserved g c = let inv = c.loop-pass-2.invariant in let taken = c.in-Some-pop.ensures.items in let put = c.push_reserved.ensures.items in let own = c.pass in record {
   room = room_left c.loop-pass-2.passes.items c.pop-in-loop-pass-2.new.self.items c.in-Some-pop.pass c.loop-pass-2.all.items c.push_reserved.new.self.items _ _ _ taken put c.push_reserved.ensures.capacity inv.room;
   idle = pushed c.loop-pass-2.all.items c.push_reserved.new.self.items own.inside.pass (λ p. IsIdle p.place.me.0) put inv.idle own.invariant.idle;
   same = moved c.args.passes.items c.loop-pass-2.passes.items c.pop-in-loop-pass-2.new.self.items c.in-Some-pop.pass c.loop-pass-2.all.items c.push_reserved.new.self.items own.inside.pass

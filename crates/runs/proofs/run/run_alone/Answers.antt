@@ -1,11 +1,11 @@
-use Rattle.std.proofs.Common.{◌≡◌, ◌≤◌, List, [], ◌∷◌, ◌++◌, length, ap, sym, subst, ◌∙◌}
+use Rattle.std.proofs.Common.{◌≡◌, ◌≤◌, List, [], ◌∷◌, ◌++◌, length, ap, sym, subst, ◌∙◌, arith}
 use Rattle.std.specs.Prelude.{map}
 use Rattle.std.specs.List.{AllByRecursion}
 use Rattle.plain_model.specs.declared.report.CellReport.{CellReport}
 use Rattle.plain_model.specs.declared.report.LocalLine.{LocalLine}
 use Rattle.plain_model.specs.declared.report.Part.{Part}
 use Rattle.plain_model.specs.declared.limits.TheConstants.{COMMANDS_LIMIT, PARTS_LIMIT}
-use Rattle.plain_model.specs.Lawful.{Lawful}
+use Rattle.plain_model.specs.Lawful.{Lawful, parts_of}
 use Rattle.plain_model.specs.Locals.{no_locals}
 use Rattle.runs.specs.declared.one_thread.OneThread.{OneThread}
 use Rattle.runs.specs.Places.{AreApart, kinds_of}
@@ -26,6 +26,7 @@ run_parts-requires c =
       apart = subst AreApart (sym decls) c.requires.apart;
       kinds = kinds_declared runs ∙ ap kinds_of c.in_ok-runs.ensures.decls;
       ready = record { each = by_index (IsSoFar 1) runs c.in_ok-runs.ensures.so_far };
+      workers = omega arith;
       count = subst (λ (ps : List Part). length ps ≤ PARTS_LIMIT) (sym parts) c.requires.count;
       few = subst (AllByRecursion (λ (p : Part). length p.commands ≤ COMMANDS_LIMIT)) (sym parts) c.requires.few;
       can = subst (AllByRecursion (λ (p : Part). CanDoAll c.as_slice-decls.result.now p.commands no_locals)) (sym parts)
@@ -39,10 +40,10 @@ returns c =
     let t = c.run_parts.new.cells in
     let lines = c.in_ok-lines.lines in
     let decls = c.as_slice-decls.ensures in
-    let parts = ap (map (λ (p : Part). p.commands)) c.as_slice-parts.ensures in
+    let parts = ap (parts_of 1 1) c.as_slice-parts.ensures in
     let far = c.in_ok-lines.ensures.ready in
     let work = subst (λ ps. WorkIsDone CallsOne script.cells ps s t lines) parts
-    (subst (λ ds. WorkIsDone CallsOne ds (map (λ (p : Part). p.commands) c.as_slice-parts.result.now) s t lines) decls c.in_ok-lines.ensures.done) in
+    (subst (λ ds. WorkIsDone CallsOne ds (parts_of 1 1 c.as_slice-parts.result.now) s t lines) decls c.in_ok-lines.ensures.done) in
     let lawful = run_is_lawful script s t far.0 lines (c.in_ok-runs.ensures.decls ∙ decls) c.in_ok-runs.ensures.lines far.1 work in
     let locals : c.push.new.self ≡ lines ∷ [] = c.in_ok-push.ensures.ok ∙ ap (λ (ls : List (List LocalLine)). ls ++ lines ∷ []) c.new-locals.ensures in
     subst (λ (rs : List CellReport). Lawful script 1 (record { workers = 1; cells = rs; locals = c.push.new.self })) (sym c.in_ok-reports.ensures)

@@ -1,0 +1,5 @@
+pub mod Seats
+pub mod Logs
+pub mod Worked
+pub mod Steps
+pub mod Waits

@@ -1,0 +1,99 @@
+//! The cells of a run that several workers share, as one of them calls them.
+ghost use Rattle.std.specs.Prelude.{◌≡◌};
+ghost use Rattle.seats.specs.Seats.{CallsAt, IsReadyFor, Seated};
+ghost use Rattle.seats.specs.Steps.{kinds_in};
+ghost use Rattle.seats.specs.Waits.{seat_waits};
+
+use crate::places::Places;
+use crate::shared::{SharedCell, SharedPass};
+use cell_calls::CellCall;
+use collections::Collection;
+use imm_base::Memory;
+use plain_model::{Line, Listed};
+use runs::Cells;
+use std::alloc::Global;
+use std::marker::Model;
+use std::sync::Wait;
+
+/// A worker's seat at the cells of a run: its pass of each, and what it noted of its calls there.
+/// It cannot be dropped, since a pass cannot.
+pub struct Seat<'a, R> {
+    rt: &'a R,
+    cells: &'a [SharedCell],
+    places: Places,
+}
+
+impl<'a, R> Model for Seat<'a, R> {
+    ghost Value = { Seated };
+
+    ghost view = { λ s. record {
+      cells = s.cells.now;
+      passes = s.places.passes.items;
+      logs = s.places.logs.items;
+      last = s.places.last;
+    } };
+}
+
+impl<'a, R> Seat<'a, R> {
+    /// A seat from which no call was made, with a pass and an empty log for each cell.
+    pub fn new(
+        rt: &'a R,
+        cells: &'a [SharedCell],
+        passes: Vec<SharedPass>,
+        logs: Vec<Listed<Line>>,
+    ) -> Seat<'a, R>
+        ensures { result ≡ record { cells = cells.now; passes = passes.items; logs = logs.items; last = 0 } }
+    {
+        let places = Places {
+            passes,
+            logs,
+            last: 0,
+        };
+        Seat { rt, cells, places }
+    }
+
+    /// The passes and the logs, in the order of the cells.
+    pub fn into_parts(self) -> (Vec<SharedPass>, Vec<Listed<Line>>)
+        ensures passes { result.0.items ≡ self.entry.passes }
+        ensures logs { result.1.items ≡ self.entry.logs }
+    {
+        let Seat {
+            rt: _,
+            cells: _,
+            places,
+        } = self;
+        let Places {
+            passes,
+            logs,
+            last: _,
+        } = places;
+        (passes, logs)
+    }
+}
+
+impl<'a, R: Wait> Cells for Seat<'a, R> {
+    ghost kinds = { λ s. kinds_in s.passes };
+
+    ghost ready = { IsReadyFor };
+
+    ghost makes = { CallsAt };
+
+    fn call(
+        &mut self,
+        alloc: Global,
+        place: usize,
+        ordinal: u64,
+        call: CellCall,
+    ) -> Result<(), Memory> {
+        self.places
+            .call(self.rt, alloc, self.cells, place, ordinal, call)?;
+        Ok(())
+    }
+
+    fn read(&mut self, _: Global, place: usize, ordinal: u64) -> Result<Collection, Memory> {
+        let value = self.places.read(self.rt, self.cells, place, ordinal)?;
+        Ok(value)
+    }
+
+    ghost waits = { seat_waits };
+}

@@ -1,0 +1,5 @@
+pub mod Hands
+pub mod Opened
+pub mod Worked
+pub mod Closed
+pub mod Laws
