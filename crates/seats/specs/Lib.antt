@@ -1,4 +1,5 @@
 pub mod Seats
+pub mod Ends
 pub mod Logs
 pub mod Worked
 pub mod Steps

@@ -1,12 +1,16 @@
-//! One worker at cells that several workers share: its passes, what it noted of its calls, and the
-//! parts that it does.
+//! Cells that several workers share, and one worker at them: its passes, what it noted of its calls,
+//! and the parts that it does.
 #![tactic(auto)]
 
+mod ends;
+mod passes;
 mod places;
 mod seat;
 mod shared;
 mod worker;
 
+pub use ends::{close_cell, open_cell};
+pub use passes::SharedPass;
 pub use seat::Seat;
-pub use shared::{CellChange, CellValue, SharedCell, SharedPass};
+pub use shared::{CellChange, CellValue, SharedCell};
 pub use worker::do_parts;

@@ -8,7 +8,8 @@ ghost use Rattle.runs.specs.Calls.{MayCall};
 ghost use Rattle.seats.specs.Seats.{IsReadyFor};
 ghost use Rattle.seats.specs.Steps.{HasCalledAt, IsCalled, kinds_in, seated, stamped_line};
 
-use crate::shared::{CellChange, CellValue, SharedCell, SharedPass};
+use crate::passes::SharedPass;
+use crate::shared::{CellChange, CellValue, SharedCell};
 use cell_calls::CellCall;
 use collections::Collection;
 use imm_base::Memory;
@@ -18,6 +19,7 @@ use std::alloc::Global;
 use std::sync::Wait;
 
 /// A worker's pass of each cell, and what it noted of its calls there.
+#[derive(Drop)]
 pub(crate) struct Places {
     pub passes: Vec<SharedPass>,
     pub logs: Vec<Listed<Line>>,
@@ -65,7 +67,7 @@ fn call_one<R: Wait>(
 {
     let caller = pass.number();
     let change = CellChange { call };
-    let (reply, stamp) = cell.call(rt, alloc, pass, ordinal, &change)?;
+    let (reply, stamp) = cell.call(rt, alloc, &mut pass.pass, ordinal, &change)?;
     let call = change.call.into_plain(alloc)?;
     push_line(log, caller, ordinal, call, reply, &stamp)?;
     Ok(())
@@ -86,7 +88,7 @@ fn read_one<R: Wait>(
     ensures called { IfOk result (λ v. IsCalled pass.old log.old ordinal calls.Read (Some v) pass.new log.new) }
 {
     let caller = pass.number();
-    let (value, stamp) = cell.read(rt, pass)?;
+    let (value, stamp) = cell.read(rt, &mut pass.pass)?;
     let CellValue { collection } = value;
     let reply = Reply::Count(collection.count());
     push_line(log, caller, ordinal, PlainCall::Read, reply, &stamp)?;

@@ -4,8 +4,9 @@ ghost use Rattle.seats.specs.Seats.{CallsAt, IsReadyFor, Seated};
 ghost use Rattle.seats.specs.Steps.{kinds_in};
 ghost use Rattle.seats.specs.Waits.{seat_waits};
 
+use crate::passes::SharedPass;
 use crate::places::Places;
-use crate::shared::{SharedCell, SharedPass};
+use crate::shared::SharedCell;
 use cell_calls::CellCall;
 use collections::Collection;
 use imm_base::Memory;
@@ -16,7 +17,7 @@ use std::marker::Model;
 use std::sync::Wait;
 
 /// A worker's seat at the cells of a run: its pass of each, and what it noted of its calls there.
-/// It cannot be dropped, since a pass cannot.
+#[derive(Drop)]
 pub struct Seat<'a, R> {
     rt: &'a R,
     cells: &'a [SharedCell],

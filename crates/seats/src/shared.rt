@@ -4,7 +4,7 @@ ghost use Rattle.cell_calls.specs.Calls.{Suits, plain_call};
 use cell_calls::CellCall;
 use collections::Collection;
 use imm_base::{Dup, Edit, Memory};
-use interlocked::{CellPass, Change, ImmCell, Outcome, Share};
+use interlocked::{Change, ImmCell, Outcome, Share};
 use std::alloc::Global;
 
 /// A collection of any kind, as a cell keeps it.
@@ -21,9 +21,6 @@ pub struct CellChange {
 
 /// A cell that several workers share.
 pub type SharedCell = ImmCell<CellValue, CellChange>;
-
-/// The right of one worker to call a cell.
-pub type SharedPass = CellPass<CellValue, CellChange>;
 
 impl Share for CellValue {
     ghost plain = { λ v. v.collection };

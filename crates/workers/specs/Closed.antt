@@ -18,6 +18,11 @@ pub record AreLogged (n : ℕ) (c : Shared) (column : Handed) : Type 0 where
   pub each : (k : ℕ) (q : Known) → k < n
       → IsLogged (new_pass c.table c.passes c.first (k + 1)) (slice_index_or column.passes k q) (slice_index_or column.logs k [])
 
+-- the same of each cell
+pub record AreAllLogged (n : ℕ) (cells : List Shared) (columns : List Handed) : Type 0 where
+  pub many : length columns ≡ length cells
+  pub each : (c : ℕ) (s : Shared) (h : Handed) → c < length cells → AreLogged n (slice_index_or cells c s) (slice_index_or columns c h)
+
 -- the report of a cell: its lines are those of all logs in one history, at whose end it has its last value
 pub record IsClosed (decl : CellDecl) (c : Shared) (column : Handed) (r : CellReport) : Type 0 where
   pub front : Front
@@ -27,8 +32,12 @@ pub record IsClosed (decl : CellDecl) (c : Shared) (column : Handed) (r : CellRe
   pub merged : IsMerged c.first.value kept.entries column.logs lines
   pub report : r ≡ record { cell = decl; first = c.first.value; lines = lines; last = kept.value }
 
--- the reports of all cells
-pub record AreClosed (decls : List CellDecl) (cells : List Shared) (columns : List Handed) (reports : List CellReport) : Type 0 where
-  pub many : length reports ≡ length decls
-  pub each : (c : ℕ) (d : CellDecl) (s : Shared) (h : Handed) (r : CellReport) → c < length decls
+-- the reports of the cells at the first places, so many of them
+pub record AreClosedTo (n : ℕ) (decls : List CellDecl) (cells : List Shared) (columns : List Handed) (reports : List CellReport) : Type 0 where
+  pub many : length reports ≡ n
+  pub each : (c : ℕ) (d : CellDecl) (s : Shared) (h : Handed) (r : CellReport) → c < n
       → IsClosed (slice_index_or decls c d) (slice_index_or cells c s) (slice_index_or columns c h) (slice_index_or reports c r)
+
+-- the reports of all cells
+abbrev pub AreClosed : List CellDecl → List Shared → List Handed → List CellReport → Type 0
+AreClosed decls cells columns reports = AreClosedTo (length decls) decls cells columns reports

@@ -1,6 +1,13 @@
-//! What several workers of a script come to at cells that they share.
+//! Runs of several workers, and what they come to.
 #![tactic(auto)]
 
+mod closing;
+mod lanes;
 mod laws;
+mod opening;
+mod run;
+mod tables;
+mod working;
 
 pub use laws::workers_come_to_lawful_reports;
+pub use run::run_script;
