@@ -57,7 +57,7 @@ first 1: 1
 1 1.2 . read -> 2
 2 1.5 + push 3 -> true
 3 2.1 + trypop -> true 3
-final 2: 1 2
+final 2: 2 1
 cell L list
 first 0:
 1 1.3 + update add 5 -> true
