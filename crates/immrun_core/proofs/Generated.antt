@@ -50,7 +50,7 @@ pub generated_ready : (n : ℕ) → IsReady (generated n)
 generated_ready n = record {
   cells = omega arith;
   distinct = (refl, (refl, (refl, (refl, tt))));
-  first = (record { kind = refl; within = refl; made = refl }, (record { kind = refl; within = refl; made = refl }, (record { kind = refl; within = refl; made = refl }, (record { kind = refl; within = refl; made = refl }, tt))));
+  first = (record { first = refl; within = refl; made = refl }, (record { first = refl; within = refl; made = refl }, (record { first = refl; within = refl; made = refl }, (record { first = refl; within = refl; made = refl }, tt))));
   parts = omega arith;
   few = each_part (λ p. length p.commands ≤ COMMANDS_LIMIT) n (few_commands n) (numbers_from 0 4);
   ready = each_part (λ p. AreReady generated_cells [] p.commands) n (λ p. commands_ready n p (numbers_from 0 4000)) (numbers_from 0 4);

@@ -80,7 +80,7 @@ are_apart (c ∷ cells) d = (none_named cells c.name d.0, are_apart cells d.1)
 
 pub can_begin : (cells : List CellDecl) → AllByRecursion HasFirst cells → AllByRecursion CanBegin cells
 can_begin [] all = tt
-can_begin (c ∷ cells) all = (record { kind = all.0.kind; within = all.0.within; made = all.0.made }, can_begin cells all.1)
+can_begin (c ∷ cells) all = (record { first = all.0.first; within = all.0.within; made = all.0.made }, can_begin cells all.1)
 
 -- a cell that is declared has a place, with its kind
 record HasPlace (cells : List CellDecl) (name : Name) (k : Kind) : Type 0 where
@@ -373,6 +373,8 @@ can_go_on cells names (commands.Enqueue cell v) b s have ok within =
     let r = queue_checked cells cell b ok in called_goes_on cells names (commands.Enqueue cell v) b s cell r.0 have r.1 r.2 (λ at. record { kind = r.0; at = at; suits = tt }) (λ after h. h)
 can_go_on cells names (commands.TryDequeue cell) b s have ok within =
     let r = queue_checked cells cell b ok in called_goes_on cells names (commands.TryDequeue cell) b s cell r.0 have r.1 r.2 (λ at. record { kind = r.0; at = at; suits = tt }) (λ after h. h)
+can_go_on cells names (commands.AddOrUpdateMade cell k make t) b s have ok within =
+    let r = dictionary_checked cells cell b ok in called_goes_on cells names (commands.AddOrUpdateMade cell k make t) b s cell r.0 have r.1 r.2 (λ at. record { kind = r.0; at = at; suits = tt }) (λ after h. h)
 can_go_on cells names (commands.New x kind src from) b s have ok within =
     let r = new_checked cells names x kind src from b ok in
     let vs = source_there names s (items_of_kind kind) src from have r.0 in

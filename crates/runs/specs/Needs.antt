@@ -9,8 +9,7 @@ use Rattle.plain_model.specs.declared.commands.Command.TheVariants as commands
 use Rattle.plain_model.specs.declared.report.Answer.{Answer}
 use Rattle.plain_model.specs.declared.report.CellDecl.{CellDecl}
 use Rattle.plain_model.specs.Names.{Name}
-use Rattle.plain_model.specs.Kinds.{is_cell_kind}
-use Rattle.plain_model.specs.Plain.{made}
+use Rattle.plain_model.specs.Plain.{first_value, made}
 use Rattle.plain_model.specs.Sources.{is_within}
 use Rattle.plain_model.specs.Work.{call_of}
 use Rattle.cell_calls.specs.Calls.{PlainSuits}
@@ -75,8 +74,8 @@ CanDoAll decls (c ∷ cs) s = CanDo decls c s × ((after : Locals) → Leaves de
 
 -- ---- cells
 
--- a cell of a kind that it may have, whose first contents can be made
+-- a cell that begins with its first contents, which can be made
 pub record CanBegin (cell : CellDecl) : Type 0 where
-  pub kind : is_cell_kind cell.kind ≡ true
+  pub first : first_value cell.kind cell.values ≡ made cell.kind cell.values
   pub within : is_within cell.values ≡ true
   pub made : is_ok (made cell.kind cell.values) ≡ true

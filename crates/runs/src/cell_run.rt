@@ -4,8 +4,7 @@ ghost use Rattle.std.specs.Prelude.{unwrap_or, []};
 ghost use Rattle.std.specs.Result.{is_ok};
 ghost use Rattle.plain_model.specs.declared.commands.PlainCall.TheVariants as calls;
 ghost use Rattle.plain_model.specs.History.{probe_of};
-ghost use Rattle.plain_model.specs.Kinds.{is_cell_kind};
-ghost use Rattle.plain_model.specs.Plain.{is_unset, made};
+ghost use Rattle.plain_model.specs.Plain.{first_value, is_unset, made};
 ghost use Rattle.plain_model.specs.Sources.{is_within};
 ghost use Rattle.cell_calls.specs.Calls.{Suits, plain_call};
 ghost use Rattle.cell_calls.specs.Outcomes.{installs_of, plain_outcome};
@@ -32,7 +31,8 @@ pub(crate) struct CellRun {
 impl CellRun {
     /// A cell before the first call.
     pub fn new(alloc: Global, decl: &CellDecl) -> Result<CellRun, Memory>
-        requires kind { is_cell_kind decl.now.kind ≡ true }
+        requires first { first_value decl.now.kind decl.now.values
+            ≡ made decl.now.kind decl.now.values }
         requires within { is_within decl.now.values ≡ true }
         requires made { is_ok (made decl.now.kind decl.now.values) ≡ true }
         ensures decl { IfOk result (λ c. c.decl ≡ decl.now) }

@@ -10,19 +10,20 @@ use Rattle.script_line.specs.declared.line.Line.TheVariants as lines
 use Rattle.script_line.specs.Words.{words}
 use Rattle.script_line.specs.Lines.{line_of}
 use Rattle.script_line.proofs.Judgements.{guard_ok, bind_ok, moved}
+use Rattle.plain_model.specs.declared.report.Version.{Version}
 use Rattle.plain_model.specs.Text.{spaced}
 use Rattle.script.specs.declared.parser.Parser.{Parser}
 use Rattle.script.specs.Symbols.{Binding}
-use Rattle.script.specs.Parser.{line_binding, is_in_place, leaves_open, structure_ok, limits_ok, after, if_room, judgement, with_line, is_allowed, is_passed_over, significant_line, next_line}
+use Rattle.script.specs.Parser.{version_of, line_binding, is_in_place, leaves_open, structure_ok, limits_ok, after, if_room, judgement, with_line, is_allowed, is_passed_over, significant_line, next_line}
 use Rattle.script_line.proofs.WrittenWords.{is_shown, AreWords, words-spaced, spaced-shown}
 use Rattle.script_line.proofs.WrittenLetters.{all_of}
 use Rattle.script_line.proofs.ReadAgain.{Words, AreReadAgain}
 use Rattle.script_line.specs.Written.{written_line}
 use Rattle.script_line.proofs.WrittenLines.{comment_says_nothing}
 
--- a line that the words written for it say
-abbrev pub IsSaid : Line → Type 0
-IsSaid l = AreReadAgain line_of written_line l
+-- a line that the words written for it say in a version
+abbrev pub IsSaid : Version → Line → Type 0
+IsSaid version l = AreReadAgain (line_of version) written_line l
 
 pub record Passes (p : Parser) (is_last : Bool) (l : Line) (next : Parser) : Type 0 where
   pub bound : Option Binding
@@ -94,14 +95,14 @@ passes_closed p l next s =
 -- ---- the bytes of a line
 
 -- a line that says something is not passed over
-not_passed_over : (ws : Words) (l : Line) → line_of ws ≡ Ok l → is_passed_over ws ≡ false
-not_passed_over [] l e = absurd cc
-not_passed_over ([] ∷ ws) l e = refl
-not_passed_over ((b ∷ bs) ∷ ws) l e = by_test (b == 35) refl
+not_passed_over : (version : Version) (ws : Words) (l : Line) → line_of version ws ≡ Ok l → is_passed_over ws ≡ false
+not_passed_over version [] l e = absurd cc
+not_passed_over version ([] ∷ ws) l e = refl
+not_passed_over version ((b ∷ bs) ∷ ws) l e = by_test (b == 35) refl
   where
     by_test : (t : Bool) → (b == 35) ≡ t → t ≡ false
     by_test false is = refl
-    by_test true is = let none : line_of ((b ∷ bs) ∷ ws) ≡ Err Word = ap (λ c. line_of ((c ∷ bs) ∷ ws)) (eqb-true b 35 is) ∙ comment_says_nothing bs ws in absurd cc
+    by_test true is = let none : line_of version ((b ∷ bs) ∷ ws) ≡ Err Word = ap (λ c. line_of version ((c ∷ bs) ∷ ws)) (eqb-true b 35 is) ∙ comment_says_nothing version bs ws in absurd cc
 
 shown_allowed : (b : ℕ) → is_shown b ≡ true → is_allowed b ≡ true
 shown_allowed b e = grind (arith, nat_tests)
@@ -110,12 +111,12 @@ shown_allowed b e = grind (arith, nat_tests)
 pub words_allowed : (ws : Words) → AreWords ws → list_all is_allowed (spaced ws) ≡ true
 words_allowed ws are = all_of is_shown is_allowed shown_allowed (spaced ws) (spaced-shown ws are)
 
-said_by : (p : Parser) (is_last : Bool) (bytes : List ℕ) (ws : Words) (l : Line) → words bytes ≡ ws → is_passed_over ws ≡ false → is_none p.version ≡ false → list_all is_allowed bytes ≡ true → line_of ws ≡ Ok l
+said_by : (p : Parser) (is_last : Bool) (bytes : List ℕ) (ws : Words) (l : Line) → words bytes ≡ ws → is_passed_over ws ≡ false → is_none p.version ≡ false → list_all is_allowed bytes ≡ true → line_of (version_of p) ws ≡ Ok l
     → next_line p is_last bytes ≡ with_line p is_last l
 unfolding next_line significant_line
 said_by p is_last bytes ws l split says begun clean read = rw (split, says, begun, clean, read) refl
 
 -- what is written for a line is judged as this line
-pub said_again : (p : Parser) (is_last : Bool) (l : Line) → is_none p.version ≡ false → IsSaid l → next_line p is_last (spaced (written_line l)) ≡ with_line p is_last l
+pub said_again : (p : Parser) (is_last : Bool) (l : Line) → is_none p.version ≡ false → IsSaid (version_of p) l → next_line p is_last (spaced (written_line l)) ≡ with_line p is_last l
 said_again p is_last l begun is =
-    said_by p is_last (spaced (written_line l)) (written_line l) l (words-spaced (written_line l) is.words) (not_passed_over (written_line l) l is.again) begun (words_allowed (written_line l) is.words) is.again
+    said_by p is_last (spaced (written_line l)) (written_line l) l (words-spaced (written_line l) is.words) (not_passed_over (version_of p) (written_line l) l is.again) begun (words_allowed (written_line l) is.words) is.again

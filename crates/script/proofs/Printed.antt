@@ -75,9 +75,9 @@ all_written p v has none =
 
 -- ---- its lines
 
-are_words : (ls : List Line) → AllByRecursion IsSaid ls → AllByRecursion AreWords (map written_line ls)
-are_words [] said = tt
-are_words (l ∷ ls) said = (said.0.words, are_words ls said.1)
+are_words : (v : Version) (ls : List Line) → AllByRecursion (IsSaid v) ls → AllByRecursion AreWords (map written_line ls)
+are_words v [] said = tt
+are_words v (l ∷ ls) said = (said.0.words, are_words v ls said.1)
 
 lines_of : (v : Version) (all : List Words) → AllByRecursion AreWords all → script_lines (flat_map line (header_words v ∷ all)) ≡ map spaced (header_words v ∷ all)
 lines_of v all are = lines-written (header_words v ∷ all) (header_is_words v, are)
@@ -91,7 +91,7 @@ printed_again p is =
     let m = is.made in
     let v : Version = m.version in
     ap read_script (all_written p v m.has is.closed)
-    ∙ ap (read_lines start 1) (lines_of v (map written_line (trace p)) (are_words (trace p) m.said))
+    ∙ ap (read_lines start 1) (lines_of v (map written_line (trace p)) (are_words v (trace p) m.said))
     ∙ ap (λ more. read_lines start 1 (spaced (header_words v) ∷ more)) (as_written (trace p))
     ∙ header_read (map written (trace p)) v
     ∙ reread (trace p) (begun v) 2 v p refl m.said m.made is.closed

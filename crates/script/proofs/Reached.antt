@@ -1,10 +1,11 @@
 -- What is reached when a text is read to its end is made by its lines.
 use Rattle.std.proofs.Common.{◌≡◌, ℕ, ◌+◌, ◌<◌, Bool, true, false, not, ◌&&◌, cond, List, [], ◌∷◌, length, Option, Some, None, Result, Ok, Err, ◌⊎◌, inl, inr, refl, sym, ap, subst, ◌∙◌, arith}
-use Rattle.std.specs.Prelude.{is_some, is_none}
+use Rattle.std.specs.Prelude.{is_some, is_none, unwrap_or}
 use Rattle.std.specs.Prelude.{codes as bytes}
 use Rattle.std.specs.List.{list_all}
 use Rattle.plain_model.specs.declared.report.Script.{Script}
 use Rattle.plain_model.specs.declared.report.Version.{Version}
+use Rattle.plain_model.specs.declared.report.Version.TheVariants as versions
 use Rattle.script_line.specs.declared.codes.Code.{Code}
 use Rattle.script_line.specs.declared.codes.Code.TheVariants.{Header, Word, Structure}
 use Rattle.script_line.specs.declared.line.Line.{Line}
@@ -18,7 +19,7 @@ use Rattle.script.specs.Parser.{start, script_of, with_line, is_allowed, is_pass
 use Rattle.script.specs.Grammar.{at_line, read_lines}
 use Rattle.script_line.proofs.ReadAgain.{Words}
 use Rattle.script_line.proofs.WrittenLines.{line_of-again}
-use Rattle.script.proofs.Passes.{passes, passes_closed}
+use Rattle.script.proofs.Passes.{IsSaid, passes, passes_closed}
 use Rattle.script.proofs.Traces.{begun, replay, IsMade, made-more}
 use Rattle.script.proofs.Rereading.{only, more, none_left}
 
@@ -30,7 +31,7 @@ record IsLineOf (p : Parser) (is_last : Bool) (next : Parser) : Type 0 where
   has : p.version ≡ Some version
   line : Line
   words : Words
-  read : line_of words ≡ Ok line
+  read : line_of version words ≡ Ok line
   taken : with_line p is_last line ≡ Ok next
 
 record IsHeaderOf (p next : Parser) : Type 0 where
@@ -64,12 +65,12 @@ significant_of : (p : Parser) (is_last : Bool) (bytes : List ℕ) (ws : Words) (
 unfolding significant_line
 significant_of p is_last bytes ws next e = by_version p.version refl e
   where
-    by_version : (o : Option Version) → p.version ≡ o → cond (is_none o) (with_header p ws) (cond (not (list_all is_allowed bytes)) (Err Word) (line_of ws >>= with_line p is_last)) ≡ Ok next
+    by_version : (o : Option Version) → p.version ≡ o → cond (is_none o) (with_header p ws) (cond (not (list_all is_allowed bytes)) (Err Word) (line_of (unwrap_or o versions.One) ws >>= with_line p is_last)) ≡ Ok next
         → IsHeaderOf p next ⊎ IsLineOf p is_last next
     by_version None has h = inl (header_of p ws next has h)
     by_version (Some v) has h =
-        let a = guard_ok (list_all is_allowed bytes) Word (line_of ws >>= with_line p is_last) next h in
-        let b = bind_ok (line_of ws) (with_line p is_last) next a.1 in
+        let a = guard_ok (list_all is_allowed bytes) Word (line_of v ws >>= with_line p is_last) next h in
+        let b = bind_ok (line_of v ws) (with_line p is_last) next a.1 in
         inr (record { version = v; has = has; line = b.0; words = ws; read = b.1; taken = b.2 })
 
 line_did : (p : Parser) (is_last : Bool) (bytes : List ℕ) (next : Parser) → next_line p is_last bytes ≡ Ok next → IsNothingOf p is_last next ⊎ (IsHeaderOf p next ⊎ IsLineOf p is_last next)
@@ -99,9 +100,13 @@ after_header : (p next : Parser) → IsReached p → IsHeaderOf p next → IsMad
 after_header p next (inl e) h = made_at_header p next e h
 after_header p next (inr m) h = let none = h.none in let has = m.has in absurd cc
 
+some_same : (v w : Version) → Some v ≡ Some w → v ≡ w
+some_same v w e = cc
+
 after_line : (p : Parser) (is_last : Bool) (next : Parser) → IsReached p → IsLineOf p is_last next → IsMade next
 after_line p is_last next (inl e) l = absurd (no_version p l.version e l.has)
-after_line p is_last next (inr m) l = made-more p is_last l.line next m (line_of-again l.words l.line l.read) (passes p is_last l.line next l.taken)
+after_line p is_last next (inr m) l =
+    made-more p is_last l.line next m (subst (λ v. IsSaid v l.line) (some_same l.version m.version (sym l.has ∙ m.has)) (line_of-again l.version l.words l.line l.read)) (passes p is_last l.line next l.taken)
 
 reached : (p : Parser) (is_last : Bool) (bytes : List ℕ) (next : Parser) → IsReached p → next_line p is_last bytes ≡ Ok next → IsReached next
 reached p is_last bytes next r e =

@@ -31,10 +31,10 @@ use Rattle.script.specs.Lines.{script_lines}
 use Rattle.script.specs.Symbols.{Binding, cell_kind, with_bound}
 use Rattle.script.specs.Commands.{check}
 use Rattle.script.specs.Limits.{is_short, command_is_short, few_enough, contents_fit, may_publish}
-use Rattle.script.specs.Parser.{start, most_of, script_of, commands_so_far, checked_cell, line_binding, is_in_place, leaves_open, structure_ok, limits_ok, after, if_room, judgement, with_line, is_allowed, is_passed_over, header_version, with_version, with_header, with_nothing, significant_line, next_line}
+use Rattle.script.specs.Parser.{start, version_of, most_of, script_of, commands_so_far, checked_cell, line_binding, is_in_place, leaves_open, structure_ok, limits_ok, after, if_room, judgement, with_line, is_allowed, is_passed_over, header_version, with_version, with_header, with_nothing, significant_line, next_line}
 use Rattle.script.specs.Grammar.{at_line, read_lines, read_script}
 use Rattle.script.specs.Ready.{IsChecked, AreReady, AreDistinct, HasFirst, IsReady}
-use Rattle.script.proofs.Cells.{cell_checked}
+use Rattle.script.proofs.Cells.{cell_checked, begins_with_contents}
 
 -- ---- lists that become longer
 
@@ -198,14 +198,14 @@ sound-after : (p : Parser) (is_last : Bool) (line : Line) (bound : Option Bindin
     → structure_ok p is_last line ≡ true → limits_ok p line bound ≡ true → IsSound (after p line bound)
 unfolding structure_ok limits_ok after
 sound-after p is_last (lines.Cell cell) bound h within binding structure limits =
-    let b = bind_ok (checked_cell p.cells cell) (λ u. Ok None) bound binding in
-    let c = cell_checked p.cells cell b.0 b.1 in
+    let b = bind_ok (checked_cell (version_of p) p.cells cell) (λ u. Ok None) bound binding in
+    let c = cell_checked (version_of p) p.cells cell b.0 b.1 in
     let s = and_parts (is_in_place p (lines.Cell cell)) (not (is_last && leaves_open (lines.Cell cell))) structure in
     let t = and_parts (is_none p.commands) (length p.parts == 0) s.0 in
     let l = and_parts (ltb (length p.cells) 16 && is_short (most_of p) cell.values) (contents_fit (most_of p) cell) limits in
     let m = and_parts (ltb (length p.cells) 16) (is_short (most_of p) cell.values) l.0 in
     sound-cell p cell h (is_nothing (cell_kind p.cells cell.name) c.0)
-    (record { kind = c.1; within = within; made = could_be_made (most_of p) (made cell.kind cell.values) l.1 }) (ltb-true (length p.cells) 16 m.0)
+    (record { first = begins_with_contents (version_of p) cell c.1; within = within; made = could_be_made (most_of p) (made cell.kind cell.values) l.1 }) (ltb-true (length p.cells) 16 m.0)
     (is_nothing p.commands t.0) (no_parts p.parts (eqb-true (length p.parts) 0 t.1))
 sound-after p is_last lines.Worker bound h within binding structure limits = sound-worker p bound h (ltb-true (length p.parts) 8 limits)
 sound-after p is_last (lines.Command c) bound h within binding structure limits =
@@ -265,10 +265,10 @@ sound-significant : (p : Parser) (is_last : Bool) (line : List ℕ) (ws : List (
 unfolding significant_line
 sound-significant p is_last line ws next h e = by_tests (is_none p.version) (list_all is_allowed line) e
   where
-    by_tests : (s t : Bool) → cond s (with_header p ws) (cond (not t) (Err Word) (line_of ws >>= with_line p is_last)) ≡ Ok next → IsSound next
+    by_tests : (s t : Bool) → cond s (with_header p ws) (cond (not t) (Err Word) (line_of (version_of p) ws >>= with_line p is_last)) ≡ Ok next → IsSound next
     by_tests true t is = sound-header p (header_version ws) next h is
     by_tests false false is = absurd cc
-    by_tests false true is = let b = bind_ok (line_of ws) (with_line p is_last) next is in sound-with_line p is_last b.0 next h (line_of-within ws b.0 b.1) b.2
+    by_tests false true is = let b = bind_ok (line_of (version_of p) ws) (with_line p is_last) next is in sound-with_line p is_last b.0 next h (line_of-within (version_of p) ws b.0 b.1) b.2
 
 sound-next : (p : Parser) (is_last : Bool) (line : List ℕ) (next : Parser) → IsSound p → next_line p is_last line ≡ Ok next → IsSound next
 unfolding next_line

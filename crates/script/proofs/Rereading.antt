@@ -1,6 +1,6 @@
 -- The lines that are written for a parser are read as its script.
-use Rattle.std.proofs.Common.{◌≡◌, ℕ, ◌+◌, Bool, true, false, List, [], ◌∷◌, map, length, Some, None, Result, Ok, refl, ap, ◌∙◌, arith}
-use Rattle.std.specs.Prelude.{is_none}
+use Rattle.std.proofs.Common.{◌≡◌, ℕ, ◌+◌, Bool, true, false, List, [], ◌∷◌, map, length, Some, None, Result, Ok, refl, ap, sym, subst, ◌∙◌, arith}
+use Rattle.std.specs.Prelude.{is_none, unwrap_or}
 use Rattle.std.specs.List.{AllByRecursion}
 use Rattle.std.proofs.lemmas.Bool.{ne_eqb}
 use Rattle.plain_model.specs.declared.report.Script.{Script}
@@ -13,7 +13,7 @@ use Rattle.script_line.specs.Words.{words}
 use Rattle.script_line.proofs.Judgements.{bind_ok, moved}
 use Rattle.script.specs.declared.fault.ParseFault.{ParseFault}
 use Rattle.script.specs.declared.parser.Parser.{Parser}
-use Rattle.script.specs.Parser.{start, script_of, with_line, with_version, header_version, significant_line, next_line}
+use Rattle.script.specs.Parser.{start, version_of, script_of, with_line, with_version, header_version, significant_line, next_line}
 use Rattle.script.specs.Grammar.{at_line, read_lines}
 use Rattle.script_line.proofs.WrittenWords.{AreWords, words-spaced}
 use Rattle.script_line.proofs.WrittenLetters.{key_word}
@@ -49,7 +49,10 @@ none_left p n = refl
 has_version : (p : Parser) (v : Version) → p.version ≡ Some v → is_none p.version ≡ false
 has_version p v e = ap is_none e
 
-pub reread : (ls : List Line) (p : Parser) (n : ℕ) (v : Version) (made : Parser) → p.version ≡ Some v → AllByRecursion IsSaid ls → replay p ls ≡ Ok made → made.commands ≡ None
+said_in : (p : Parser) (v : Version) (l : Line) → p.version ≡ Some v → IsSaid v l → IsSaid (version_of p) l
+said_in p v l has is = subst (λ o. IsSaid (unwrap_or o versions.One) l) (sym has) is
+
+pub reread : (ls : List Line) (p : Parser) (n : ℕ) (v : Version) (made : Parser) → p.version ≡ Some v → AllByRecursion (IsSaid v) ls → replay p ls ≡ Ok made → made.commands ≡ None
     → read_lines p n (map written ls) ≡ Ok (script_of made)
 unfolding replay
 reread [] p n v made has said e none = none_left p n ∙ moved (λ (q : Parser). finished p ≡ finished q) p made e refl
@@ -57,11 +60,11 @@ reread (l ∷ []) p n v made has said e none =
     let b = bind_ok (with_line p false l) (λ x. Ok x) made e in
     let step : with_line p false l ≡ Ok made = b.1 ∙ b.2 in
     let last : with_line p true l ≡ Ok made = passes_so p true l made (passes_last p l made (passes p false l made step) none) in
-    only p n (written l) ∙ one p n true (written l) [] made (said_again p true l (has_version p v has) said.0 ∙ last) ∙ none_left made (n + 1)
+    only p n (written l) ∙ one p n true (written l) [] made (said_again p true l (has_version p v has) (said_in p v l has said.0) ∙ last) ∙ none_left made (n + 1)
 reread (l ∷ m ∷ ms) p n v made has said e none =
     let b = bind_ok (with_line p false l) (λ x. replay x (m ∷ ms)) made e in
     let has_next : b.0.version ≡ Some v = version_next p false l b.0 (passes p false l b.0 b.1) ∙ has in
-    more p n (written l) (written m) (map written ms) ∙ one p n false (written l) (map written (m ∷ ms)) b.0 (said_again p false l (has_version p v has) said.0 ∙ b.1)
+    more p n (written l) (written m) (map written ms) ∙ one p n false (written l) (map written (m ∷ ms)) b.0 (said_again p false l (has_version p v has) (said_in p v l has said.0) ∙ b.1)
     ∙ reread (m ∷ ms) b.0 (n + 1) v made has_next said.1 b.2 none
 
 -- ---- the header

@@ -9,7 +9,7 @@ use Rattle.script.specs.declared.parser.Parser.{Parser}
 use Rattle.script.specs.declared.parser.Stop.{Stop}
 use Rattle.script.specs.declared.parser.Stop.TheVariants as stops
 use Rattle.script.specs.Symbols.{Binding}
-use Rattle.script.specs.Parser.{after, judgement, with_line, Judges, IsStopped, IsStep, is_allowed, significant_line}
+use Rattle.script.specs.Parser.{version_of, after, judgement, with_line, Judges, IsStopped, IsStep, is_allowed, significant_line}
 
 pub with_line-stopped : {E : Type 0} (p new : Parser) (is_last : Bool) (line : Line) (stop : Stop) (result : Result (Result (Unit {0}) Code) E)
     → Judges (Err stop) (judgement p is_last line) → IsStopped stop result → IfOk result (λ step. IsStep new step (with_line p is_last line))
@@ -30,7 +30,7 @@ with_line-judged p new is_last line bound result judged is = rw judged is
 -- ---- a significant line that says something
 
 pub significant_line-read : {E : Type 0} (p new : Parser) (is_last : Bool) (bytes : List ℕ) (ws : List (List ℕ)) (line : Line) (result : Result (Result (Unit {0}) Code) E)
-    → is_none p.version ≡ false → list_all is_allowed bytes ≡ true → line_of ws ≡ Ok line
+    → is_none p.version ≡ false → list_all is_allowed bytes ≡ true → line_of (version_of p) ws ≡ Ok line
     → IfOk result (λ step. IsStep new step (with_line p is_last line)) → IfOk result (λ step. IsStep new step (significant_line p is_last bytes ws))
 unfolding significant_line
 significant_line-read p new is_last bytes ws line result begun clean read is = rw (begun, clean, read) is

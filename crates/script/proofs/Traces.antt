@@ -101,7 +101,7 @@ begun version = record start { version = Some version }
 pub record IsMade (p : Parser) : Type 0 where
   pub version : Version
   pub has : p.version ≡ Some version
-  pub said : AllByRecursion IsSaid (trace p)
+  pub said : AllByRecursion (IsSaid version) (trace p)
   pub made : replay (begun version) (trace p) ≡ Ok p
 
 all-more : {A : Type 0} (P : A → Type 0) (xs : List A) (x : A) → AllByRecursion P xs → P x → AllByRecursion P (xs ++ x ∷ [])
@@ -118,7 +118,7 @@ version_kept p lines.End bound = refl
 pub version_next : (p : Parser) (is_last : Bool) (l : Line) (next : Parser) → Passes p is_last l next → next.version ≡ p.version
 version_next p is_last l next s = ap (λ (q : Parser). q.version) (sym s.made) ∙ version_kept p l s.bound
 
-pub made-more : (p : Parser) (is_last : Bool) (l : Line) (next : Parser) → IsMade p → IsSaid l → Passes p is_last l next → IsMade next
+pub made-more : (p : Parser) (is_last : Bool) (l : Line) (next : Parser) → (m : IsMade p) → IsSaid m.version l → Passes p is_last l next → IsMade next
 unfolding structure_ok
 made-more p is_last l next m is s =
     let place = and_parts (is_in_place p l) (not (is_last && leaves_open l)) s.structure in
@@ -127,6 +127,6 @@ made-more p is_last l next m is s =
     record {
       version = m.version;
       has = version_next p is_last l next s ∙ m.has;
-      said = subst (AllByRecursion IsSaid) (sym order) (all-more IsSaid (trace p) l m.said is);
+      said = subst (AllByRecursion (IsSaid m.version)) (sym order) (all-more (IsSaid m.version) (trace p) l m.said is);
       made = ap (replay (begun m.version)) order ∙ replay-more (begun m.version) (trace p) l p next m.made step;
     }

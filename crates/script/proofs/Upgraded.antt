@@ -1,5 +1,6 @@
 -- What the first version takes, the last one takes too.
 use Rattle.std.proofs.Common.{◌≡◌, ◌≤◌, ℕ, Bool, true, false, not, ◌&&◌, leb, ltb, List, [], ◌∷◌, length, Option, Some, None, Result, Ok, Err, refl, ap, ◌∙◌, arith}
+use Rattle.std.specs.List.{AllByRecursion}
 use Rattle.std.proofs.lemmas.Bool.{and_parts, and_from, leb-true, le-leb}
 use Rattle.plain_model.specs.declared.history.Refusal.{Refusal}
 use Rattle.plain_model.specs.declared.plain.Plain.{Plain}
@@ -12,12 +13,15 @@ use Rattle.script_line.specs.declared.line.Line.{Line}
 use Rattle.script_line.specs.declared.line.Line.TheVariants as lines
 use Rattle.script_line.specs.Codes.{◌>>=◌}
 use Rattle.script_line.specs.Lines.{command_values}
+use Rattle.script_line.specs.Written.{written_line}
 use Rattle.script_line.proofs.Judgements.{bind_ok, moved}
+use Rattle.script_line.proofs.WrittenLines.{line_too}
 use Rattle.script.specs.declared.parser.Parser.{Parser}
 use Rattle.script.specs.Symbols.{Binding, with_bound}
 use Rattle.script.specs.Limits.{seq_limit, is_short, are_short, command_is_short, few_enough, contents_fit, may_publish}
-use Rattle.script.specs.Parser.{version_of, most_of, commands_so_far, line_binding, is_in_place, leaves_open, structure_ok, limits_ok, after, with_line}
-use Rattle.script.proofs.Passes.{Passes, passes, passes_so}
+use Rattle.script.specs.Parser.{version_of, most_of, commands_so_far, checked_cell, line_binding, is_in_place, leaves_open, structure_ok, limits_ok, after, with_line}
+use Rattle.script.proofs.Cells.{cell_checked_too}
+use Rattle.script.proofs.Passes.{IsSaid, Passes, passes, passes_so}
 use Rattle.script.proofs.Traces.{trace, begun, replay, IsMade}
 
 abbrev pub in_last_version : Parser → Parser
@@ -65,11 +69,13 @@ limits_too p lines.End bound e = refl
 
 -- ---- lines
 
-binds_too : (p : Parser) (l : Line) → line_binding (in_last_version p) l ≡ line_binding p l
-binds_too p (lines.Cell cell) = refl
-binds_too p lines.Worker = refl
-binds_too p (lines.Command c) = refl
-binds_too p lines.End = refl
+binds_too : (p : Parser) (l : Line) (bound : Option Binding) → line_binding p l ≡ Ok bound → line_binding (in_last_version p) l ≡ Ok bound
+binds_too p (lines.Cell cell) bound e =
+    let b = bind_ok (checked_cell (version_of p) p.cells cell) (λ u. Ok None) bound e in
+    ap (λ r. r >>= λ u. Ok None) (cell_checked_too (version_of p) p.cells cell b.0 b.1) ∙ b.2
+binds_too p lines.Worker bound e = e
+binds_too p (lines.Command c) bound e = e
+binds_too p lines.End bound e = e
 
 in_place_too : (p : Parser) (l : Line) → is_in_place (in_last_version p) l ≡ is_in_place p l
 in_place_too p (lines.Cell cell) = refl
@@ -91,7 +97,7 @@ after_too p lines.End bound = refl
 passes_too : (p : Parser) (is_last : Bool) (l : Line) (next : Parser) → Passes p is_last l next → Passes (in_last_version p) is_last l (in_last_version next)
 passes_too p is_last l next s = record {
   bound = s.bound;
-  binds = binds_too p l ∙ s.binds;
+  binds = binds_too p l s.bound s.binds;
   structure = structure_too p is_last l ∙ s.structure;
   limits = limits_too p l s.bound s.limits;
   made = after_too p l s.bound ∙ ap in_last_version s.made;
@@ -108,5 +114,12 @@ replay_too (l ∷ ls) p made e =
 
 -- ---- what is made by its lines
 
+said_too : (version : Version) (l : Line) → IsSaid version l → IsSaid versions.Two l
+said_too version l is = record { words = is.words; again = line_too version (written_line l) l is.again }
+
+all_said_too : (version : Version) (ls : List Line) → AllByRecursion (IsSaid version) ls → AllByRecursion (IsSaid versions.Two) ls
+all_said_too version [] said = tt
+all_said_too version (l ∷ ls) said = (said_too version l said.0, all_said_too version ls said.1)
+
 pub made_in_last_version : (p : Parser) → IsMade p → IsMade (in_last_version p)
-made_in_last_version p m = record { version = versions.Two; has = refl; said = m.said; made = replay_too (trace p) (begun m.version) p m.made }
+made_in_last_version p m = record { version = versions.Two; has = refl; said = all_said_too m.version (trace p) m.said; made = replay_too (trace p) (begun m.version) p m.made }

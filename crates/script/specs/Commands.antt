@@ -71,6 +71,7 @@ binding cells names (commands.Push cell v) = call_binding cells called.Stack cel
 binding cells names (commands.TryPop cell) = call_binding cells called.Stack cell
 binding cells names (commands.Enqueue cell v) = call_binding cells called.Queue cell
 binding cells names (commands.TryDequeue cell) = call_binding cells called.Queue cell
+binding cells names (commands.AddOrUpdateMade cell k make t) = call_binding cells called.Dict cell
 binding cells names (commands.New x kind src from) =
     source_fits names (items_of_kind kind) from >>= λ u. Ok (collection x kind)
 binding cells names (commands.Let y x op from) =

@@ -10,6 +10,7 @@ use Rattle.plain_model.specs.declared.report.Script.{Script}
 use Rattle.plain_model.specs.declared.report.Version.{Version}
 use Rattle.plain_model.specs.declared.report.Version.TheVariants as versions
 use Rattle.plain_model.specs.Kinds.{is_cell_kind}
+use Rattle.plain_model.specs.Plain.{is_unset}
 use Rattle.script_line.specs.declared.codes.Code.{Code}
 use Rattle.script_line.specs.declared.codes.Code.TheVariants as codes
 use Rattle.script_line.specs.declared.line.Line.{Line}
@@ -40,13 +41,18 @@ commands_so_far p = unwrap_or p.commands []
 
 -- ---- names and kinds: codes 4 and 5
 
+-- In the second version a cell may also have an array to begin with.
+abbrev pub may_begin : Version → CellDecl → Bool
+may_begin versions.One cell = is_cell_kind cell.kind
+may_begin versions.Two cell = is_cell_kind cell.kind || not (is_unset cell.values)
+
 -- a cell is declared once, of a kind that it may have
-abbrev pub checked_cell : List CellDecl → CellDecl → Result (Unit {0} × Unit {0}) Code
-checked_cell cells cell = require codes.Name (is_none (cell_kind cells cell.name)) ⊗ require codes.Kind (is_cell_kind cell.kind)
+abbrev pub checked_cell : Version → List CellDecl → CellDecl → Result (Unit {0} × Unit {0}) Code
+checked_cell version cells cell = require codes.Name (is_none (cell_kind cells cell.name)) ⊗ require codes.Kind (may_begin version cell)
 
 -- the local name that a line binds, if it binds one
 abbrev pub line_binding : Parser → Line → Result (Option Binding) Code
-line_binding p (lines.Cell cell) = checked_cell p.cells cell >>= λ u. Ok None
+line_binding p (lines.Cell cell) = checked_cell (version_of p) p.cells cell >>= λ u. Ok None
 line_binding p (lines.Command c) = check p.cells p.names c
 line_binding p _ = Ok None
 
@@ -165,7 +171,7 @@ unfoldable pub significant_line : Parser → Bool → List ℕ → List (List �
 significant_line p is_last line ws =
     if is_none p.version then with_header p ws
     else if not (list_all is_allowed line) then Err codes.Word
-    else (line_of ws >>= with_line p is_last)
+    else (line_of (version_of p) ws >>= with_line p is_last)
 
 -- The state after one line, the last one or not, or the least code that applies.
 unfoldable pub next_line : Parser → Bool → List ℕ → Result Parser Code

@@ -7,9 +7,8 @@ use Rattle.plain_model.specs.declared.commands.Command.{Command}
 use Rattle.plain_model.specs.declared.names.Class.{Class}
 use Rattle.plain_model.specs.declared.report.CellDecl.{CellDecl}
 use Rattle.plain_model.specs.declared.report.Script.{Script}
-use Rattle.plain_model.specs.Kinds.{is_cell_kind}
 use Rattle.plain_model.specs.Names.{Bindings}
-use Rattle.plain_model.specs.Plain.{made}
+use Rattle.plain_model.specs.Plain.{first_value, made}
 use Rattle.plain_model.specs.Sources.{is_within, are_within}
 use Rattle.script_line.specs.Lines.{command_values}
 use Rattle.script.specs.Symbols.{Binding, cell_kind, with_bound}
@@ -31,9 +30,9 @@ abbrev pub AreDistinct : List CellDecl → Type 0
 AreDistinct [] = Unit {0}
 AreDistinct (cell ∷ cells) = (cell_kind cells cell.name ≡ None) × AreDistinct cells
 
--- a cell of a kind that it may have, whose first contents can be made
+-- a cell that begins with its first contents, which can be made
 pub record HasFirst (cell : CellDecl) : Type 0 where
-  pub kind : is_cell_kind cell.kind ≡ true
+  pub first : first_value cell.kind cell.values ≡ made cell.kind cell.values
   pub within : is_within cell.values ≡ true
   pub made : is_ok (made cell.kind cell.values) ≡ true
 

@@ -240,6 +240,7 @@ fn binding(
         Command::TryPop(cell) => call_binding(cells, Called::Stack, cell),
         Command::Enqueue(cell, _) => call_binding(cells, Called::Queue, cell),
         Command::TryDequeue(cell) => call_binding(cells, Called::Queue, cell),
+        Command::AddOrUpdateMade(cell, _, _, _) => call_binding(cells, Called::Dict, cell),
         Command::New(name, kind, values, from) => {
             new_binding(cells, names, name, *kind, values, from)
         }

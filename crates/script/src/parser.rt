@@ -3,10 +3,11 @@
 ghost use Rattle.std.specs.Prelude.{◌≡◌, ◌≤◌, [], None, Ok, length, OnOk, IfOk};
 ghost use Rattle.std.specs.List.{list_all};
 ghost use Rattle.imm_base.specs.declared.TheConstants.{LIMIT};
+ghost use Rattle.plain_model.specs.Plain.{is_unset};
 ghost use Rattle.script_line.specs.Words.{bytes_of};
 ghost use Rattle.script_line.specs.Lines.{IsWithin};
 ghost use Rattle.script_line.specs.declared.line.Line.TheVariants as lines;
-ghost use Rattle.script.specs.Parser.{start, version_of, most_of, script_of, commands_so_far, checked_cell, line_binding, is_in_place, leaves_open, structure_ok, limits_ok, after, if_room, judgement, with_line, Judges, IsStopped};
+ghost use Rattle.script.specs.Parser.{start, version_of, most_of, script_of, commands_so_far, may_begin, checked_cell, line_binding, is_in_place, leaves_open, structure_ok, limits_ok, after, if_room, judgement, with_line, Judges, IsStopped};
 ghost use Rattle.script.specs.Parser.{is_allowed, is_comment, is_passed_over, named_version, header_version, with_header, with_nothing, significant_line, next_line, IsStep};
 
 use crate::commands::check;
@@ -15,7 +16,7 @@ use crate::symbols::{Binding, bind, cell_kind, count_with, require};
 use imm_base::Memory;
 use plain_model::{
     CELLS_LIMIT, COMMANDS_LIMIT, CellDecl, Class, Command, Listed, NAMES_LIMIT, Names, PARTS_LIMIT,
-    Part, Script, Version,
+    Part, Script, Values, Version,
 };
 use script_line::{Code, Line, both_or_least, line_of, split_words};
 use std::alloc::Global;
@@ -120,6 +121,25 @@ fn leaves_open(line: &Line) -> bool
     }
 }
 
+fn is_unset(values: &Values) -> bool
+    ensures { result ≡ is_unset values.now }
+{
+    match values {
+        Values::Unset => true,
+        _ => false,
+    }
+}
+
+/// Whether a cell may begin so. In the second version it may also have an array to begin with.
+fn may_begin(version: Version, cell: &CellDecl) -> bool
+    ensures { result ≡ may_begin version cell.now }
+{
+    match version {
+        Version::One => cell.kind.is_cell_kind(),
+        Version::Two => cell.kind.is_cell_kind() || !is_unset(&cell.values),
+    }
+}
+
 impl Parser {
     pub(crate) fn new(alloc: Global) -> Parser
         ensures { result ≡ start }
@@ -161,12 +181,12 @@ impl Parser {
 
     /// Whether the cell is declared once, of a kind that it may have.
     fn check_cell(&self, cell: &CellDecl) -> Result<((), ()), Code>
-        ensures { result ≡ checked_cell self.now.cells cell.now }
+        ensures { result ≡ checked_cell (version_of self.now) self.now.cells cell.now }
     {
         let is_new = cell_kind(self.cells.as_slice(), &cell.name).is_none();
         both_or_least(
             require(Code::Name, is_new),
-            require(Code::Kind, cell.kind.is_cell_kind()),
+            require(Code::Kind, may_begin(self.version_of(), cell)),
         )
     }
 
@@ -406,7 +426,7 @@ impl Parser {
         if !is_clean(line) {
             return Ok(Err(Code::Word));
         }
-        match line_of(alloc, words)? {
+        match line_of(alloc, self.version_of(), words)? {
             Ok(line) => self.add_line(alloc, is_last, line),
             Err(code) => Ok(Err(code)),
         }

@@ -12,6 +12,7 @@ use Rattle.plain_model.specs.declared.commands.Query.{Query}
 use Rattle.plain_model.specs.declared.commands.Query.TheVariants as queries
 use Rattle.plain_model.specs.declared.commands.Command.{Command}
 use Rattle.plain_model.specs.declared.commands.Command.TheVariants as commands
+use Rattle.plain_model.specs.declared.report.Version.{Version}
 use Rattle.plain_model.specs.Sources.{is_within, are_within, op_values, query_values}
 use Rattle.imm_base.specs.declared.comparers.ValEq.{ValEq}
 use Rattle.script_line.specs.declared.codes.Code.{Code}
@@ -229,6 +230,6 @@ lines_within (Ok (Ok line)) first ws e = record { within = line_of_words-within 
 lines_within (Ok (Err c)) first ws e = tt
 lines_within (Err e) first ws h = tt
 
-pub line_of-within : (ws : List (List ℕ)) (l : Line) → line_of ws ≡ Ok l → LineWithin l
-line_of-within [] l e = absurd cc
-line_of-within (first ∷ ws) l e = let b = bind_ok (keyword_of first) (λ k. line_of_words k ws) l e in line_of_words-within b.0 ws l b.2
+pub line_of-within : (version : Version) (ws : List (List ℕ)) (l : Line) → line_of version ws ≡ Ok l → LineWithin l
+line_of-within version [] l e = absurd cc
+line_of-within version (first ∷ ws) l e = let b = bind_ok (keyword_of version first) (λ k. line_of_words k ws) l e in line_of_words-within b.0 ws l b.2

@@ -4,6 +4,8 @@ use Rattle.std.specs.Prelude.{codes as bytes}
 use Rattle.plain_model.specs.declared.commands.Command.{Command}
 use Rattle.plain_model.specs.declared.commands.Command.TheVariants as commands
 use Rattle.plain_model.specs.declared.plain.Values.{Values}
+use Rattle.plain_model.specs.declared.report.Version.{Version}
+use Rattle.plain_model.specs.declared.report.Version.TheVariants as versions
 use Rattle.plain_model.specs.Sources.{is_within, are_within, op_values, query_values}
 use Rattle.script_line.specs.declared.codes.Code.{Code}
 use Rattle.script_line.specs.declared.codes.Code.TheVariants.{Word}
@@ -28,9 +30,9 @@ use Rattle.script_line.specs.Operations.{op}
 use Rattle.script_line.specs.Queries.{query}
 use Rattle.script_line.specs.Calls.{call_of_words}
 
--- the first words; another one is unknown
-abbrev pub keyword_of : List ℕ → Result Keyword Code
-keyword_of = entry (
+-- the first words of both versions
+abbrev pub common_keywords : List (List ℕ × Keyword)
+common_keywords =
     (bytes "cell", keywords.Cell) ∷
     (bytes "worker", keywords.Worker) ∷
     (bytes "end", keywords.End) ∷
@@ -53,7 +55,23 @@ keyword_of = entry (
     (bytes "show", keywords.Show) ∷
     (bytes "frozenset", keywords.FrozenSet) ∷
     (bytes "frozenmap", keywords.FrozenMap) ∷
-    [])
+    []
+
+abbrev pub common_keyword : List ℕ → Result Keyword Code
+common_keyword word = entry common_keywords word
+
+-- those of the second version alone
+abbrev pub newer_keyword : Version → List ℕ → Result Keyword Code
+newer_keyword versions.One word = Err Word
+newer_keyword versions.Two word = entry ((bytes "addorupdatef", keywords.Call call_words.AddOrUpdateMade) ∷ []) word
+
+abbrev pub common_or_newer : Result Keyword Code → Version → List ℕ → Result Keyword Code
+common_or_newer (Ok k) version word = Ok k
+common_or_newer (Err c) version word = newer_keyword version word
+
+-- the first words; another one is unknown
+abbrev pub keyword_of : Version → List ℕ → Result Keyword Code
+keyword_of version word = common_or_newer (common_keyword word) version word
 
 -- what a frozen collection is made of
 abbrev pub equality_and_source : ItemKind → List (List ℕ) → Result (ValEq × Source) Code
@@ -89,9 +107,10 @@ line_of_words keywords.FrozenMap ws =
     one_and_rest local_name (equality_and_source Pairs) ws
     >>= λ (x, d). Ok (lines.Command (commands.FrozenMap x d.0 d.1.values d.1.from))
 
-abbrev pub line_of : List (List ℕ) → Result Line Code
-line_of [] = Err Word
-line_of (first ∷ words) = keyword_of first >>= λ k. line_of_words k words
+-- what the words say in a version
+abbrev pub line_of : Version → List (List ℕ) → Result Line Code
+line_of version [] = Err Word
+line_of version (first ∷ words) = keyword_of version first >>= λ k. line_of_words k words
 
 -- ---- the values of a line
 

@@ -5,7 +5,7 @@ ghost use Rattle.script_line.specs.Words.{bytes_of};
 ghost use Rattle.script_line.specs.Values.{value};
 ghost use Rattle.script_line.specs.Names.{cell_name};
 ghost use Rattle.script_line.specs.Arguments.{two, one_and_rest};
-ghost use Rattle.script_line.specs.Calls.{transform_word, transform_of_words, transform, call_of_words};
+ghost use Rattle.script_line.specs.Calls.{transform_word, transform_of_words, transform, factory_word, making_of_words, making, call_of_words};
 
 use crate::arguments::{cell_and_value, one_cell_name, one_integer, one_value, two_values};
 use crate::codes::{Code, both_or_least};
@@ -13,7 +13,7 @@ use crate::names::cell_name;
 use crate::table::entry;
 use crate::values::value;
 use imm_base::{Text24, Val};
-use plain_model::{Command, Transform};
+use plain_model::{Command, Factory, Transform};
 
 /// The word of such a call.
 #[derive(Clone, Copy)]
@@ -27,6 +27,7 @@ pub(crate) enum CallWord {
     TryPop,
     Enqueue,
     TryDequeue,
+    AddOrUpdateMade,
 }
 
 /// The word of what becomes of a value.
@@ -69,6 +70,71 @@ fn transform(words: &[&[u8]]) -> Result<Transform, Code>
             Ok(word) => transform_of_words(word, rest),
             Err(code) => Err(code),
         },
+        [] => Err(Code::Word),
+    }
+}
+
+/// The word of how a value is made.
+#[derive(Clone, Copy)]
+pub(crate) enum FactoryWord {
+    Key,
+    Const,
+}
+
+const FACTORIES: [(&[u8], FactoryWord); 2] = [
+    (b"key", FactoryWord::Key),
+    (b"const", FactoryWord::Const),
+];
+
+fn factory_word(word: &[u8]) -> Result<FactoryWord, Code>
+    ensures { result ≡ factory_word word.now }
+{
+    entry(&FACTORIES, word)
+}
+
+fn making_of_words(word: FactoryWord, words: &[&[u8]]) -> Result<(Factory, Transform), Code>
+    ensures { result ≡ making_of_words word (bytes_of words.now) }
+{
+    match word {
+        FactoryWord::Key => {
+            let transform = transform(words)?;
+            Ok((Factory::Key, transform))
+        }
+        FactoryWord::Const => {
+            let (value, transform) = value_and_transform(words)?;
+            Ok((Factory::Const(value), transform))
+        }
+    }
+}
+
+/// How a value is made, and what becomes of the one that is there.
+#[tactic(auto, unfolding(crate::specs::Calls::making))]
+fn making(words: &[&[u8]]) -> Result<(Factory, Transform), Code>
+    ensures { result ≡ making (bytes_of words.now) }
+{
+    match words {
+        [word, rest @ ..] => match factory_word(word) {
+            Ok(word) => making_of_words(word, rest),
+            Err(code) => Err(code),
+        },
+        [] => Err(Code::Word),
+    }
+}
+
+fn key_and_making(words: &[&[u8]]) -> Result<(Val, (Factory, Transform)), Code>
+    ensures { result ≡ one_and_rest value making (bytes_of words.now) }
+{
+    match words {
+        [k, rest @ ..] => both_or_least(value(k), making(rest)),
+        [] => Err(Code::Word),
+    }
+}
+
+fn cell_key_and_making(words: &[&[u8]]) -> Result<(Text24, (Val, (Factory, Transform))), Code>
+    ensures { result ≡ one_and_rest cell_name (one_and_rest value making) (bytes_of words.now) }
+{
+    match words {
+        [c, rest @ ..] => both_or_least(cell_name(c), key_and_making(rest)),
         [] => Err(Code::Word),
     }
 }
@@ -159,5 +225,9 @@ pub(crate) fn call_of_words(word: CallWord, words: &[&[u8]]) -> Result<Command, 
             cell_and_value(words).map(|(cell, value)| Command::Enqueue(cell, value))
         }
         CallWord::TryDequeue => one_cell_name(words).map(Command::TryDequeue),
+        CallWord::AddOrUpdateMade => cell_key_and_making(words).map(|(
+            cell,
+            (key, (make, transform)),
+        )| Command::AddOrUpdateMade(cell, key, make, transform)),
     }
 }

@@ -10,7 +10,7 @@ ghost use Rattle.script_line.specs.Operations.{op};
 ghost use Rattle.script_line.specs.Queries.{query};
 ghost use Rattle.script_line.specs.Arguments.{one_and_rest, three};
 ghost use Rattle.script_line.specs.declared.sources.Scope.TheVariants as scopes;
-ghost use Rattle.script_line.specs.Lines.{equality_and_source, keyword_of, line_of_words, line_of, IsWithin, command_values};
+ghost use Rattle.script_line.specs.Lines.{equality_and_source, common_keyword, newer_keyword, keyword_of, line_of_words, line_of, IsWithin, command_values};
 
 use crate::arguments::{cell_and_local_name, no_word, one_local_name};
 use crate::calls::{CallWord, call_of_words};
@@ -23,7 +23,7 @@ use crate::queries::{QueryWithSource, query};
 use crate::sources::{Scope, Source};
 use crate::table::entry;
 use imm_base::{Memory, Text24, ValEq};
-use plain_model::{CellDecl, Command, Comparer, ItemKind, Values};
+use plain_model::{CellDecl, Command, Comparer, ItemKind, Values, Version};
 use std::alloc::Global;
 
 /// A line with its arguments read.
@@ -54,6 +54,7 @@ pub(crate) enum Keyword {
     FrozenMap,
 }
 
+/// The first words of both versions.
 const KEYWORDS: [(&[u8], Keyword); 22] = [
     (b"cell", Keyword::Cell),
     (b"worker", Keyword::Worker),
@@ -79,10 +80,34 @@ const KEYWORDS: [(&[u8], Keyword); 22] = [
     (b"frozenmap", Keyword::FrozenMap),
 ];
 
-fn keyword_of(word: &[u8]) -> Result<Keyword, Code>
-    ensures { result ≡ keyword_of word.now }
+/// The first words of the second version alone.
+const NEWER_KEYWORDS: [(&[u8], Keyword); 1] = [(
+    b"addorupdatef",
+    Keyword::Call(CallWord::AddOrUpdateMade),
+)];
+
+fn common_keyword(word: &[u8]) -> Result<Keyword, Code>
+    ensures { result ≡ common_keyword word.now }
 {
     entry(&KEYWORDS, word)
+}
+
+fn newer_keyword(version: Version, word: &[u8]) -> Result<Keyword, Code>
+    ensures { result ≡ newer_keyword version word.now }
+{
+    match version {
+        Version::One => Err(Code::Word),
+        Version::Two => entry(&NEWER_KEYWORDS, word),
+    }
+}
+
+fn keyword_of(version: Version, word: &[u8]) -> Result<Keyword, Code>
+    ensures { result ≡ keyword_of version word.now }
+{
+    match common_keyword(word) {
+        Ok(keyword) => Ok(keyword),
+        Err(_) => newer_keyword(version, word),
+    }
 }
 
 fn cell_and_contents(
@@ -264,15 +289,19 @@ fn line_of_words(
     }
 }
 
-/// What a line says, by its words, in O(n) for n bytes.
-pub fn line_of(alloc: Global, words: &[&[u8]]) -> Result<Result<Line, Code>, Memory>
-    ensures read { IfOk result (λ read. read ≡ line_of (bytes_of words.now)) }
+/// What a line says in a version, by its words, in O(n) for n bytes.
+pub fn line_of(
+    alloc: Global,
+    version: Version,
+    words: &[&[u8]],
+) -> Result<Result<Line, Code>, Memory>
+    ensures read { IfOk result (λ read. read ≡ line_of version (bytes_of words.now)) }
     // The integers of a sequence are integers of 64 bits.
     ensures within { IfOk result (λ read. IfOk read IsWithin) }
 {
     match words {
         [] => Ok(Err(Code::Word)),
-        [first, rest @ ..] => match keyword_of(first) {
+        [first, rest @ ..] => match keyword_of(version, first) {
             Ok(keyword) => line_of_words(alloc, keyword, rest),
             Err(code) => Ok(Err(code)),
         },

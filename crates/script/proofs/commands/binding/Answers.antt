@@ -41,3 +41,7 @@ returns-in-Enqueue c = search rules
 pub returns-in-TryDequeue : goal.returns-in-TryDequeue
 unfolding binding
 returns-in-TryDequeue c = search rules
+
+pub returns-in-AddOrUpdateMade : goal.returns-in-AddOrUpdateMade
+unfolding binding
+returns-in-AddOrUpdateMade c = search rules
