@@ -71,8 +71,8 @@ record Reads (task : Task) (q : SourceEnds) : Type 0 where
   pub has : (script : Script) → HasScript task q script → IsRead q script
   pub stops : (status : Status) → Stops task q status → ReadsUntil q status
 
-run_reads : (q : SourceEnds) → Reads Run q
-run_reads q = record { has = λ script has. has; stops = λ status stops. stops }
+run_reads : (n : ℕ) (q : SourceEnds) → Reads (Run n) q
+run_reads n q = record { has = λ script has. has; stops = λ status stops. stops }
 
 check_reads : (q : SourceEnds) → Reads Check q
 check_reads q = record { has = λ script has. has; stops = λ status stops. stops }
@@ -143,6 +143,6 @@ generated_completes n q s Memory h calm = inr refl
 generated_completes n q s TooLong h calm = absurd h.stops
 
 pub is_complete : (task : Task) (q : SourceEnds) (s : SinkEnds) (status : Status) → Ended task q s status → Completes task q s status
-is_complete Run q s status h = reading_completes Run q s status (run_reads q) h
+is_complete (Run n) q s status h = reading_completes (Run n) q s status (run_reads n q) h
 is_complete Check q s status h = reading_completes Check q s status (check_reads q) h
 is_complete (Gen n) q s status h = generated_completes n q s status h

@@ -5,3 +5,4 @@ pub mod Told
 pub mod Readiness
 pub mod Tasks
 pub mod Generated
+pub mod TaskEnds

@@ -27,6 +27,7 @@ use Rattle.plain_model.specs.declared.report.Answer.{Answer}
 use Rattle.plain_model.specs.declared.report.Answer.TheVariants as answers
 use Rattle.plain_model.specs.declared.report.CellDecl.{CellDecl}
 use Rattle.plain_model.specs.declared.report.Part.{Part}
+use Rattle.plain_model.specs.declared.report.Script.{Script}
 use Rattle.plain_model.specs.Comparers.{order_named, equality_named, name_of_order, name_of_equality, comparer_eq, with_comparer, has_comparer}
 use Rattle.plain_model.specs.Kinds.{is_kind, items_of_kind, items_of_op}
 use Rattle.plain_model.specs.Names.{Name, Bindings, get, with_name, contents_kind}
@@ -43,7 +44,8 @@ use Rattle.script_line.specs.Lines.{command_values}
 use Rattle.script.specs.Symbols.{Binding, cell_kind, with_bound}
 use Rattle.script.specs.Commands.{binding, class_answers}
 use Rattle.script.specs.Commands as script
-use Rattle.script.specs.Ready.{AreReady, AreDistinct, HasFirst}
+use Rattle.script.specs.Ready.{AreReady, AreDistinct, HasFirst, IsReady}
+use Rattle.workers.specs.Scripts.{CanRun}
 use Rattle.script.proofs.Checked.{check_binding, dictionary_checked, stack_checked, queue_checked, update_checked, read_checked, publish_checked, new_checked, let_checked, rekey_checked, ask_checked, show_checked, frozen_set_checked, frozen_map_checked, HasContents, HasSource}
 
 clash : (b : Bool) → b ≡ true → b ≡ false → ⊥
@@ -74,11 +76,11 @@ none_named (c ∷ cells) name e = split (bytes_eq c.name name) refl e (none_name
     split true is e rest = absurd cc
     split false is e rest = (turned c.name name false is, rest e)
 
-pub are_apart : (cells : List CellDecl) → AreDistinct cells → AreApart cells
+are_apart : (cells : List CellDecl) → AreDistinct cells → AreApart cells
 are_apart [] d = tt
 are_apart (c ∷ cells) d = (none_named cells c.name d.0, are_apart cells d.1)
 
-pub can_begin : (cells : List CellDecl) → AllByRecursion HasFirst cells → AllByRecursion CanBegin cells
+can_begin : (cells : List CellDecl) → AllByRecursion HasFirst cells → AllByRecursion CanBegin cells
 can_begin [] all = tt
 can_begin (c ∷ cells) all = (record { first = all.0.first; within = all.0.within; made = all.0.made }, can_begin cells all.1)
 
@@ -468,6 +470,17 @@ can_do_all cells (c ∷ cs) names s have ready =
 no_names : HaveKinds [] no_locals
 no_names x class e = absurd cc
 
-pub can_do_parts : (cells : List CellDecl) (parts : List Part) → AllByRecursion (λ p. AreReady cells [] p.commands) parts → AllByRecursion (λ p. CanDoAll cells p.commands no_locals) parts
+can_do_parts : (cells : List CellDecl) (parts : List Part) → AllByRecursion (λ p. AreReady cells [] p.commands) parts → AllByRecursion (λ p. CanDoAll cells p.commands no_locals) parts
 can_do_parts cells [] all = tt
 can_do_parts cells (p ∷ parts) all = (can_do_all cells p.commands [] no_locals no_names all.0, can_do_parts cells parts all.1)
+
+-- ---- scripts
+
+pub can_run : (script : Script) → IsReady script → CanRun script
+can_run script ready = record {
+  apart = are_apart script.cells ready.distinct;
+  begin = can_begin script.cells ready.first;
+  count = ready.parts;
+  few = ready.few;
+  can = can_do_parts script.cells script.parts ready.ready;
+}

@@ -1,5 +1,5 @@
 -- What a call of `top` may come to.
-use Rattle.std.specs.Prelude.{◌≡◌, ◌⊎◌, ℕ, ◌+◌, ◌<◌, ◌≤◌, List, [], ◌∷◌, length, Some, Ok, Err, codes, decimal}
+use Rattle.std.specs.Prelude.{◌≡◌, ◌⊎◌, ℕ, ◌+◌, ◌<◌, ◌≤◌, List, [], ◌∷◌, length, Some, Result, Ok, Err, Vec, codes, decimal}
 use Rattle.imm_base.specs.Causes.{Rose}
 use Rattle.plain_model.specs.declared.report.Script.{Script}
 use Rattle.plain_model.specs.declared.report.Report.{Report}
@@ -10,6 +10,7 @@ use Rattle.generator.specs.declared.scripts.TheConstants.{NUMBER_LIMIT}
 use Rattle.script.specs.declared.fault.ParseFault.{ParseFault}
 use Rattle.script.specs.Grammar.{read_script}
 use Rattle.script.specs.Printing.{canonical_text}
+use Rattle.workers.specs.declared.lanes.TheConstants.{WORKERS_LIMIT}
 use Rattle.immrun_core.specs.declared.task.Task.{Task}
 use Rattle.immrun_core.specs.declared.task.Task.TheVariants.{Run, Check, Gen}
 use Rattle.immrun_core.specs.declared.word.Word.{Word}
@@ -21,13 +22,13 @@ use Rattle.immrun_core.specs.Status.{fault_line}
 
 -- the words that ask for a task
 abbrev pub words_for : Task → List Word
-words_for Run = Short (codes "run") ∷ Short (codes "1") ∷ []
+words_for (Run n) = Short (codes "run") ∷ Short (decimal n) ∷ []
 words_for Check = Short (codes "check") ∷ []
 words_for (Gen n) = Short (codes "gen") ∷ Short (decimal n) ∷ []
 
--- scripts are generated for the numbers up to a limit
+-- a run has some workers, up to a limit, and scripts are generated for the numbers up to another
 abbrev pub IsTask : Task → Type 0
-IsTask Run = Unit {0}
+IsTask (Run n) = (0 < n) × (n ≤ WORKERS_LIMIT)
 IsTask Check = Unit {0}
 IsTask (Gen n) = n ≤ NUMBER_LIMIT
 
@@ -38,6 +39,10 @@ Asks words task = (words ≡ words_for task) × IsTask task
 -- the words ask for some task
 abbrev pub IsKnown : List Word → Type 0
 IsKnown words = (task : Task) × Asks words task
+
+-- the words ask for a run, with whatever count of workers
+abbrev pub IsRun : List Word → Type 0
+IsRun words = (n : ℕ) × Asks words (Run n)
 
 -- ---- the script of a task
 
@@ -55,7 +60,7 @@ pub record IsRefused (q : SourceEnds) (fault : ParseFault) : Type 0 where
 
 -- a run and a check read their script; that of a number is generated, and nothing is read
 abbrev pub HasScript : Task → SourceEnds → Script → Type 0
-HasScript Run q script = IsRead q script
+HasScript (Run n) q script = IsRead q script
 HasScript Check q script = IsRead q script
 HasScript (Gen n) q script = (script ≡ generated n) × Unread q
 
@@ -69,23 +74,23 @@ ReadsUntil q status = ⊥
 
 -- a generated script is stopped by want of memory alone
 abbrev pub Stops : Task → SourceEnds → Status → Type 0
-Stops Run q status = ReadsUntil q status
+Stops (Run n) q status = ReadsUntil q status
 Stops Check q status = ReadsUntil q status
 Stops (Gen n) q Memory = Unread q
 Stops (Gen n) q status = ⊥
 
 -- ---- what is written of a script
 
--- the text of a lawful report of it
-pub record IsReportOf (script : Script) (text : List ℕ) : Type 0 where
+-- the text of a lawful report of it, with so many workers
+pub record IsReportOf (script : Script) (n : ℕ) (text : List ℕ) : Type 0 where
   pub report : Report
-  pub lawful : Lawful script 1 report
+  pub lawful : Lawful script n report
   pub is_text : text ≡ report_text report
 
 -- A run writes a report, a check the canonical text of the script in the last version, and of a
 -- generated script the summary is written.
 abbrev pub Gives : Task → Script → List ℕ → Type 0
-Gives Run script text = IsReportOf script text
+Gives (Run n) script text = IsReportOf script n text
 Gives Check script text = text ≡ canonical_text (upgrade script)
 Gives (Gen n) script text = IsSummary n text
 
@@ -96,6 +101,11 @@ pub record Output (task : Task) (q : SourceEnds) (text : List ℕ) : Type 0 wher
   pub script : Script
   pub has : HasScript task q script
   pub gives : Gives task script text
+
+-- the task came to this text, or stopped with a status in its place
+abbrev pub TextEnd : {Z : Type 0} → Task → SourceEnds → Result (Vec ℕ Z) Status → Type 0
+TextEnd task q (Ok text) = Output task q text.items
+TextEnd task q (Err status) = Stops task q status
 
 -- that text was written
 pub record IsDone (task : Task) (q : SourceEnds) (s : SinkEnds) : Type 0 where
@@ -146,7 +156,7 @@ pub record ReadingCompletes (q : SourceEnds) (s : SinkEnds) (status : Status) : 
 
 -- a generated script needs no bytes
 abbrev pub Completes : Task → SourceEnds → SinkEnds → Status → Type 0
-Completes Run q s status = ReadingCompletes q s status
+Completes (Run n) q s status = ReadingCompletes q s status
 Completes Check q s status = ReadingCompletes q s status
 Completes (Gen n) q s status = Calm s.faults s.faults_after → OrMemory Done status
 

@@ -12,7 +12,7 @@ mod word;
 
 pub use plain_model::report_text;
 pub use program::{plain_top, top};
-pub use run::run_one;
+pub use run::{run_one, run_script};
 pub use status::Status;
 pub use task::Task;
 pub use word::{Text64, Word};

@@ -1,15 +1,15 @@
 //! The whole program, from the words of its command line to its status.
-ghost use Rattle.std.specs.Prelude.{◌≡◌, ◌↔◌, ◌≤◌, ℕ, None, Some, IfOk, IfErr, IfSome};
+ghost use Rattle.std.specs.Prelude.{◌≡◌, ◌↔◌, ◌≤◌, None, Some, IfOk, IfErr, IfSome};
 ghost use Rattle.plain_model.specs.Generator.{generated};
 ghost use Rattle.script.specs.Ready.{IsReady};
-ghost use Rattle.immrun_core.specs.Outside.{source_ends, sink_ends};
-ghost use Rattle.immrun_core.specs.Top.{words_for, IsTask, Asks, IsKnown, IsRead, ReadsUntil, HasScript, Stops, Gives, Ended, IsUsage, Completes, Told};
+ghost use Rattle.immrun_core.specs.Outside.{SourceEnds, Unread, source_ends, sink_ends};
+ghost use Rattle.immrun_core.specs.Top.{IsTask, Asks, IsKnown, IsRun, IsRead, ReadsUntil, TextEnd, Ended, IsUsage, Completes, Told};
 
 use crate::fault_line::report_status;
-use crate::run::run_one;
+use crate::run::{run_one, run_script};
 use crate::status::Status;
 use crate::streams::{ReadStop, read_all, write_all};
-use crate::task::{Task, task_of};
+use crate::task::{Task, task_of, workers_of};
 use crate::word::Word;
 use generator::{NUMBER_LIMIT, gen_script, summary_text};
 use imm_base::{Gate, Memory, Sink, Source};
@@ -52,73 +52,69 @@ fn generate(alloc: Global, number: u32) -> Result<Script, Memory>
     gen_script(alloc, number)
 }
 
-// The script of a task, or the status that comes where there is none.
-fn script_of<Q: Source>(alloc: Global, task: Task, source: &mut Q) -> Result<Script, Status>
-    requires { IsTask task }
-    ensures ready { IfOk result (λ script. IsReady script) }
-    ensures has { IfOk result (λ script. HasScript task (source_ends Q.left Q.faults source.old
-        source.new) script) }
-    ensures stops { IfErr result (λ status. Stops task (source_ends Q.left Q.faults source.old
-        source.new) status) }
-{
-    match task {
-        Task::Run | Task::Check => read_script(alloc, source),
-        Task::Gen(number) => match generate(alloc, number) {
-            Ok(script) => Ok(script),
-            Err(Memory) => Err(Status::Memory),
-        },
-    }
-}
-
-// What a task gives of a script.
-fn output(alloc: Global, task: Task, script: &Script) -> Result<Vec<u8>, Memory>
-    requires ready { IsReady script.now }
-    requires own { (n : ℕ) → task ≡ Task.Gen n → script.now ≡ generated n }
-    ensures { IfOk result (λ text. Gives task script.now text.items) }
-{
-    match task {
-        Task::Run => {
-            let report = run_one(alloc, script)?;
-            report_text(alloc, &report)
-        }
-        Task::Check => {
-            let upgraded = upgrade(alloc, script)?;
-            print(alloc, &upgraded)
-        }
-        Task::Gen(number) => {
-            let report = run_one(alloc, script)?;
-            summary_text(alloc, number, &report)
-        }
-    }
-}
-
-// Does a task, and tells nobody.
+// The report of the script that a source gives, run with so many workers.
 #[tactic(auto, using(crate::proofs::Tasks::stops_later))]
-fn perform<Q: Source, S: Sink>(alloc: Global, task: Task, source: &mut Q, sink: &mut S) -> Status
-    requires { IsTask task }
-    ensures { Ended task (source_ends Q.left Q.faults source.old source.new)
-        (sink_ends S.taken S.faults sink.old sink.new) result }
+fn report<R: Threads + Wait + Sync, Q: Source, G: Gate>(
+    rt: &R,
+    alloc: Global,
+    workers: u32,
+    source: &mut Q,
+    gate: &G,
+) -> Result<Vec<u8>, Status>
+    requires { IsTask (Task.Run workers) }
+    ensures { TextEnd (Task.Run workers) (source_ends Q.left Q.faults source.old source.new)
+        result }
 {
-    let script = match script_of(alloc, task, source) {
-        Ok(script) => script,
-        Err(status) => return status,
-    };
-    let Ok(text) = output(alloc, task, &script) else {
-        return Status::Memory;
-    };
-    match write_all(sink, &text) {
-        Ok(()) => Status::Done,
-        Err(_) => Status::WriteFault,
+    let script = read_script(alloc, source)?;
+    let report = run_script(rt, alloc, &script, workers, gate)?;
+    let text = report_text(alloc, &report)?;
+    Ok(text)
+}
+
+// The canonical text of the script that a source gives, in the last version of the language.
+#[tactic(auto, using(crate::proofs::Tasks::stops_later))]
+fn canonical<Q: Source>(alloc: Global, source: &mut Q) -> Result<Vec<u8>, Status>
+    ensures { TextEnd Task.Check (source_ends Q.left Q.faults source.old source.new) result }
+{
+    let script = read_script(alloc, source)?;
+    let upgraded = upgrade(alloc, &script)?;
+    let text = print(alloc, &upgraded)?;
+    Ok(text)
+}
+
+// The summary of the script of a number, run with one worker on the calling thread.
+fn summary(alloc: Global, number: u32) -> Result<Vec<u8>, Status>
+    requires { IsTask (Task.Gen number) }
+    ensures { (q : SourceEnds) → Unread q → TextEnd (Task.Gen number) q result }
+{
+    let script = generate(alloc, number)?;
+    let report = run_one(alloc, &script)?;
+    let text = summary_text(alloc, number, &report)?;
+    Ok(text)
+}
+
+// Writes the text that a task came to, if it did, and answers how the task ended.
+#[tactic(auto, using(crate::proofs::Tasks::stopped_so))]
+fn finish<S: Sink>(text: Result<Vec<u8>, Status>, sink: &mut S) -> Status
+    ensures { (task : Task) (q : SourceEnds) → TextEnd task q text
+        → Ended task q (sink_ends S.taken S.faults sink.old sink.new) result }
+{
+    match text {
+        Ok(text) => match write_all(sink, &text) {
+            Ok(()) => Status::Done,
+            Err(_) => Status::WriteFault,
+        },
+        Err(status) => status,
     }
 }
 
 /// Does what the words say where that needs no other thread, and answers how it ended: with any
-/// words but `run 1`. The word `check` writes the canonical text of the script that the source gives,
-/// in the last version of the language. The words `gen N` run the generated script of the number N,
-/// which is at most 999,999 and has no leading zeros, and write its summary; they read nothing.
+/// words but those of a run. The word `check` writes the canonical text of the script that the
+/// source gives, in the last version of the language. The words `gen N` run the generated script of
+/// the number N, which is at most 999,999 and has no leading zeros, and write its summary; they read
+/// nothing.
 ///
 /// No clause says when memory runs out. Where the sink of faults fails, its line is cut off.
-#[tactic(auto, using(crate::proofs::Tasks::one_task, crate::proofs::Tasks::no_usage))]
 pub fn plain_top<Q: Source, S: Sink, E: Sink>(
     alloc: Global,
     words: &[Word],
@@ -127,7 +123,7 @@ pub fn plain_top<Q: Source, S: Sink, E: Sink>(
     faults: &mut E,
 ) -> Option<Status>
     // There is no answer exactly for the words of a run, and then nothing was touched.
-    ensures none { (result ≡ None) ↔ (words.now ≡ words_for Task.Run) }
+    ensures none { (result ≡ None) ↔ IsRun words.now }
     ensures untouched { result ≡ None → (source.new ≡ source.old) × (sink.new ≡ sink.old)
         × (faults.new ≡ faults.old) }
     // What an answer says, as in `top`.
@@ -144,28 +140,28 @@ pub fn plain_top<Q: Source, S: Sink, E: Sink>(
         status) }
 {
     let status = match task_of(words) {
-        Some(Task::Run) => return None,
-        Some(task) => perform(alloc, task, source, sink),
+        Some(Task::Run(_)) => return None,
+        Some(Task::Check) => finish(canonical(alloc, source), sink),
+        Some(Task::Gen(number)) => finish(summary(alloc, number), sink),
         None => Status::Usage,
     };
     report_status(faults, status);
     Some(status)
 }
 
-/// Does what the words say, and answers how that ended. The words `run 1` run the script that the
-/// source gives on the calling thread, and write its report to the sink; `plain_top` says what comes
-/// of all others.
+/// Does what the words say, and answers how that ended. The words `run N` run the script that the
+/// source gives with N workers, 1 to 8, and write its report to the sink; `plain_top` says what
+/// comes of all others.
 ///
 /// No clause says when memory runs out. Where the sink of faults fails, its line is cut off.
-#[tactic(auto, using(crate::proofs::Tasks::one_task, crate::proofs::Tasks::no_usage))]
 pub fn top<R: Threads + Wait + Sync, Q: Source, S: Sink, E: Sink, G: Gate>(
-    _rt: &R,
+    rt: &R,
     alloc: Global,
     words: &[Word],
     source: &mut Q,
     sink: &mut S,
     faults: &mut E,
-    _gate: &G,
+    gate: &G,
 ) -> Status
     // What each status says of the source and the sink.
     ensures ended { (task : Task) → Asks words.now task → Ended task (source_ends Q.left Q.faults
@@ -182,10 +178,13 @@ pub fn top<R: Threads + Wait + Sync, Q: Source, S: Sink, E: Sink, G: Gate>(
 {
     match plain_top(alloc, words, source, sink, faults) {
         Some(status) => status,
-        None => {
-            let status = perform(alloc, Task::Run, source, sink);
-            report_status(faults, status);
-            status
-        }
+        None => match workers_of(words) {
+            Some(workers) => {
+                let status = finish(report(rt, alloc, workers, source, gate), sink);
+                report_status(faults, status);
+                status
+            }
+            None => unreachable!(),
+        },
     }
 }

@@ -1,5 +1,8 @@
 ghost use Rattle.std.specs.Prelude.{◌≡◌};
+ghost use Rattle.immrun_core.specs.declared.status.Status.TheVariants.{Memory as OfMemory};
 ghost use Rattle.immrun_core.specs.Status.{exit_code};
+
+use imm_base::Memory;
 
 /// How a call of `top` ended.
 #[derive(Clone, Copy, Debug, PartialEq, Eq)]
@@ -34,5 +37,13 @@ impl Status {
             Status::Memory => 6,
             Status::TooLong => 7,
         }
+    }
+}
+
+impl From<Memory> for Status {
+    ghost from_gives = { λ _ status. status ≡ OfMemory };
+
+    fn from(_: Memory) -> Self {
+        Status::Memory
     }
 }

@@ -1,10 +1,11 @@
-use imm_base::{FreeGate, MemSink, MemSource, Memory};
+use imm_base::{FreeGate, Gate, MemSink, MemSource, Memory};
 use immrun_core::*;
 use plain_model::{Listed, Report};
 use std::alloc::Global;
 use std::sync::Wait;
 use std::test::Fail;
 use std::thread::Threads;
+use workers::workers_come_to_lawful_reports;
 
 const SCRIPT: &[u8] = b"immrun 1\ncell A list\nworker\nupdate A add 5\nread A x\nend\n";
 
@@ -15,12 +16,12 @@ const USAGE: &[u8] = b"usage: immrun run N | check | gen N\n";
 
 // A call: its words, the source's bytes, whether the first read fails, and the room of both sinks.
 #[derive(Clone, Copy)]
-struct Call {
-    words: &'static [&'static str],
-    input: &'static [u8],
-    fails: bool,
-    room: u64,
-    fault_room: u64,
+pub(crate) struct Call {
+    pub words: &'static [&'static str],
+    pub input: &'static [u8],
+    pub fails: bool,
+    pub room: u64,
+    pub fault_room: u64,
 }
 
 // How it ends: the status, and what the sinks took.
@@ -31,7 +32,7 @@ struct End {
     told: &'static [u8],
 }
 
-const RUN: Call = Call {
+pub(crate) const RUN: Call = Call {
     words: &["run", "1"],
     input: SCRIPT,
     fails: false,
@@ -64,26 +65,62 @@ fn source_of(alloc: Global, bytes: Vec<u8>, fails: bool) -> Result<MemSource, Fa
     Ok(MemSource::new(bytes, failing))
 }
 
+// What a call came to.
+#[derive(Drop)]
+pub(crate) struct Ran {
+    pub status: Status,
+    pub wrote: MemSink,
+    pub told: MemSink,
+}
+
+// Calls the program with these words, this source and sinks of these rooms.
+pub(crate) fn run_on<R: Threads + Wait + Sync, G: Gate>(
+    rt: &R,
+    alloc: Global,
+    words: &[&str],
+    mut source: MemSource,
+    room: u64,
+    fault_room: u64,
+    gate: &G,
+) -> Result<Ran, Fail> {
+    let mut wrote = sink_of(alloc, room)?;
+    let mut told = sink_of(alloc, fault_room)?;
+    let words = words_of(alloc, words)?;
+    let status = top(rt, alloc, &words, &mut source, &mut wrote, &mut told, gate);
+    Ok(Ran {
+        status,
+        wrote,
+        told,
+    })
+}
+
+// Makes a call, with this gate.
+pub(crate) fn run_at<R: Threads + Wait + Sync, G: Gate>(
+    rt: &R,
+    alloc: Global,
+    call: &Call,
+    gate: &G,
+) -> Result<Ran, Fail> {
+    let source = source_of(alloc, Vec::from_slice(alloc, call.input)?, call.fails)?;
+    run_on(
+        rt,
+        alloc,
+        call.words,
+        source,
+        call.room,
+        call.fault_room,
+        gate,
+    )
+}
+
 fn ends_so<R: Threads + Wait + Sync>(
     rt: &R,
     alloc: Global,
     call: &Call,
     end: &End,
 ) -> Result<bool, Fail> {
-    let mut source = source_of(alloc, Vec::from_slice(alloc, call.input)?, call.fails)?;
-    let mut sink = sink_of(alloc, call.room)?;
-    let mut faults = sink_of(alloc, call.fault_room)?;
-    let words = words_of(alloc, call.words)?;
-    let status = top(
-        rt,
-        alloc,
-        &words,
-        &mut source,
-        &mut sink,
-        &mut faults,
-        &FreeGate,
-    );
-    Ok(status == end.status && sink.bytes() == end.wrote && faults.bytes() == end.told)
+    let ran = run_at(rt, alloc, call, &FreeGate)?;
+    Ok(ran.status == end.status && ran.wrote.bytes() == end.wrote && ran.told.bytes() == end.told)
 }
 
 #[test]
@@ -151,9 +188,11 @@ fn other_words_are_usage(rt: HostRuntime) -> Result<(), Fail> {
         wrote: b"",
         told: USAGE,
     };
-    let rows: [&'static [&'static str]; 6] = [
+    let rows: [&'static [&'static str]; 8] = [
+        &["run", "0"],
         &["run", "9"],
         &["run", "01"],
+        &["run", "1", "1"],
         &["run"],
         &["check", "1"],
         &["gen", "1000000"],
@@ -161,6 +200,79 @@ fn other_words_are_usage(rt: HostRuntime) -> Result<(), Fail> {
     ];
     for words in &rows {
         assert!(rt; ends_so(&rt, rt.alloc(), &Call { words, ..RUN }, &usage)?);
+    }
+    Ok(())
+}
+
+// Whatever their order, each cell has the calls of one worker alone.
+const PARTS: &[u8] = b"immrun 1
+cell A list
+cell B stack
+worker
+update A add 1
+end
+worker
+push B 2
+end
+worker
+read A x
+ask x count
+end
+";
+
+const TWO_WORKERS: &[u8] = b"immrun report 1
+workers 2
+cell A list
+first 0:
+1 1.1 + update add 1 -> true
+1 1.2 . read -> 1
+final 1: 1
+cell B stack
+first 0:
+1 2.1 + push 2 -> true
+final 1: 2
+worker 1
+1.3 ask x count -> 1
+worker 2
+end
+";
+
+const ONE_OF_EIGHT: &[u8] = b"immrun report 1
+workers 8
+cell A list
+first 0:
+1 1.1 + update add 5 -> true
+1 1.2 . read -> 1
+final 1: 5
+worker 1
+worker 2
+worker 3
+worker 4
+worker 5
+worker 6
+worker 7
+worker 8
+end
+";
+
+#[test]
+fn so_many_workers_run_as_the_words_ask_for(rt: HostRuntime) -> Result<(), Fail> {
+    let two = Call {
+        words: &["run", "2"],
+        input: PARTS,
+        ..RUN
+    };
+    let eight = Call {
+        words: &["run", "8"],
+        ..RUN
+    };
+    for (call, wrote) in &[(two, TWO_WORKERS), (eight, ONE_OF_EIGHT)] {
+        let done = End {
+            status: Status::Done,
+            wrote,
+            told: b"",
+        };
+        assert!(rt; ends_so(&rt, rt.alloc(), call, &done)?);
     }
     Ok(())
 }
@@ -289,4 +401,9 @@ fn a_report_has_a_list_for_each_of_eight_workers(rt: HostRuntime) -> Result<(), 
     let text = report_text(rt.alloc(), &report)?;
     assert_eq!(rt; text.as_slice(), EIGHT);
     Ok(())
+}
+
+#[test]
+fn the_law_of_workers_is_called(rt: HostRuntime) {
+    workers_come_to_lawful_reports();
 }

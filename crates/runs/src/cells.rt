@@ -53,6 +53,13 @@ pub trait Cells {
         ensures set { IfOk result (λ v. is_unset v.values ≡ false) }
         ensures makes { IfOk result (λ v. Makes makes self.old place ordinal calls.Read (Some v) self.new) };
 
+    /// Called directly before a command of a worker. `Err` says that memory ran out, for this worker
+    /// or for another.
+    fn before(&self, worker: u32, ordinal: u64) -> Result<(), Memory>;
+
+    /// Called directly after a command of a worker.
+    fn after(&self, worker: u32, ordinal: u64);
+
     // Ordinals may be left out.
     ghost waits: { (cells : Self) (ordinal : ℕ) → ready cells ordinal → ready cells (ordinal + 1) };
 }

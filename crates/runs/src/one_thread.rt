@@ -39,5 +39,11 @@ impl Cells for OneThread {
         Ok(value)
     }
 
+    fn before(&self, _worker: u32, _ordinal: u64) -> Result<(), Memory> {
+        Ok(())
+    }
+
+    fn after(&self, _worker: u32, _ordinal: u64) {}
+
     ghost waits = { cells_wait };
 }

@@ -215,13 +215,14 @@ pub(crate) fn run_command<T: Cells>(
     }
 }
 
-/// Does the commands of one part, the first of which has this ordinal. A part begins with no
-/// names.
+/// Does the commands of one part of the worker with this number, the first of which has this
+/// ordinal. A part begins with no names.
 fn run_part<T: Cells>(
     alloc: Global,
     decls: &[CellDecl],
     cells: &mut T,
     worker: &mut Worker,
+    number: u32,
     ordinal: u64,
     commands: &[Command],
 ) -> Result<(), Memory>
@@ -238,7 +239,9 @@ fn run_part<T: Cells>(
     worker.names = Locals::new(alloc);
     let mut next = ordinal;
     for command in commands {
+        cells.before(number, next)?;
         run_command(alloc, decls, cells, worker, next, command)?;
+        cells.after(number, next);
         next += 1;
     }
     Ok(())
@@ -286,7 +289,7 @@ pub fn run_parts<T: Cells>(
     let mut place = 1;
     for part in parts {
         let commands = commands_for(part, place, number, workers);
-        run_part(alloc, decls, cells, &mut worker, ordinal, commands)?;
+        run_part(alloc, decls, cells, &mut worker, number, ordinal, commands)?;
         ordinal += commands.len() as u64;
         place += 1;
     }

@@ -1,5 +1,6 @@
 //! The rights of workers to call cells.
 ghost use Rattle.std.specs.Prelude.{◌≡◌, ◌≤◌, [], IfOk, length, vec_capacity};
+ghost use Rattle.version_slots.specs.Tokens.{front_of};
 ghost use Rattle.interlocked.specs.Known.{Known};
 
 use crate::shared::{CellChange, CellValue};
@@ -33,6 +34,20 @@ impl SharedPass {
         ensures { result ≡ self.now.view.number }
     {
         self.pass.number()
+    }
+
+    // The ordinal of the last call, or 0.
+    pub(crate) fn last_ordinal(&self) -> u64
+        ensures { result ≡ self.now.last }
+    {
+        self.pass.last_ordinal()
+    }
+
+    // The ticket of the newest version that it has seen.
+    pub(crate) fn ticket(&self) -> u64
+        ensures { result ≡ (front_of self.now.view.seen).ticket }
+    {
+        self.pass.seen().ticket
     }
 
     // The same right, which cannot be dropped.

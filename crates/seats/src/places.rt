@@ -12,7 +12,7 @@ use crate::passes::SharedPass;
 use crate::shared::{CellChange, CellValue, SharedCell};
 use cell_calls::CellCall;
 use collections::Collection;
-use imm_base::Memory;
+use imm_base::{Memory, Tokens};
 use interlocked::Stamp;
 use plain_model::{Line, Listed, PlainCall, Reply};
 use std::alloc::Global;
@@ -93,6 +93,18 @@ fn read_one<R: Wait>(
     let reply = Reply::Count(collection.count());
     push_line(log, caller, ordinal, PlainCall::Read, reply, &stamp)?;
     Ok(collection)
+}
+
+impl Tokens for Places {
+    fn last_ordinal(&self, cell: u32) -> Option<u64> {
+        let pass = self.passes.get(cell as usize)?;
+        Some(pass.last_ordinal())
+    }
+
+    fn ticket(&self, cell: u32) -> Option<u64> {
+        let pass = self.passes.get(cell as usize)?;
+        Some(pass.ticket())
+    }
 }
 
 impl Places {

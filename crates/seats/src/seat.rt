@@ -9,22 +9,26 @@ use crate::places::Places;
 use crate::shared::SharedCell;
 use cell_calls::CellCall;
 use collections::Collection;
-use imm_base::Memory;
+use imm_base::{Gate, Memory};
 use plain_model::{Line, Listed};
 use runs::Cells;
 use std::alloc::Global;
 use std::marker::Model;
 use std::sync::Wait;
+use std::sync::atomic::{AtomicBool, Ordering};
 
 /// A worker's seat at the cells of a run: its pass of each, and what it noted of its calls there.
 #[derive(Drop)]
-pub struct Seat<'a, R> {
+pub struct Seat<'a, R, G> {
     rt: &'a R,
+    gate: &'a G,
+    // raised where memory ran out for one of the workers
+    stop: &'a AtomicBool,
     cells: &'a [SharedCell],
     places: Places,
 }
 
-impl<'a, R> Model for Seat<'a, R> {
+impl<'a, R, G> Model for Seat<'a, R, G> {
     ghost Value = { Seated };
 
     ghost view = { λ s. record {
@@ -35,14 +39,17 @@ impl<'a, R> Model for Seat<'a, R> {
     } };
 }
 
-impl<'a, R> Seat<'a, R> {
-    /// A seat from which no call was made, with a pass and an empty log for each cell.
+impl<'a, R, G> Seat<'a, R, G> {
+    /// A seat from which no call was made, with a pass and an empty log for each cell. All seats of a
+    /// run have one gate and one flag, which stops them where it is raised.
     pub fn new(
         rt: &'a R,
+        gate: &'a G,
+        stop: &'a AtomicBool,
         cells: &'a [SharedCell],
         passes: Vec<SharedPass>,
         logs: Vec<Listed<Line>>,
-    ) -> Seat<'a, R>
+    ) -> Seat<'a, R, G>
         ensures { result ≡ record { cells = cells.now; passes = passes.items; logs = logs.items; last = 0 } }
     {
         let places = Places {
@@ -50,7 +57,18 @@ impl<'a, R> Seat<'a, R> {
             logs,
             last: 0,
         };
-        Seat { rt, cells, places }
+        Seat {
+            rt,
+            gate,
+            stop,
+            cells,
+            places,
+        }
+    }
+
+    /// Stops all workers at their next commands.
+    pub fn stop_all(&self) {
+        self.stop.store(true, Ordering::Relaxed);
     }
 
     /// The passes and the logs, in the order of the cells.
@@ -60,6 +78,8 @@ impl<'a, R> Seat<'a, R> {
     {
         let Seat {
             rt: _,
+            gate: _,
+            stop: _,
             cells: _,
             places,
         } = self;
@@ -72,7 +92,7 @@ impl<'a, R> Seat<'a, R> {
     }
 }
 
-impl<'a, R: Wait> Cells for Seat<'a, R> {
+impl<'a, R: Wait, G: Gate> Cells for Seat<'a, R, G> {
     ghost kinds = { λ s. kinds_in s.passes };
 
     ghost ready = { IsReadyFor };
@@ -94,6 +114,18 @@ impl<'a, R: Wait> Cells for Seat<'a, R> {
     fn read(&mut self, _: Global, place: usize, ordinal: u64) -> Result<Collection, Memory> {
         let value = self.places.read(self.rt, self.cells, place, ordinal)?;
         Ok(value)
+    }
+
+    fn before(&self, worker: u32, ordinal: u64) -> Result<(), Memory> {
+        self.gate.before(worker, ordinal);
+        if self.stop.load(Ordering::Relaxed) {
+            return Err(Memory);
+        }
+        Ok(())
+    }
+
+    fn after(&self, worker: u32, ordinal: u64) {
+        self.gate.after(worker, ordinal, &self.places);
     }
 
     ghost waits = { seat_waits };

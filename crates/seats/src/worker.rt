@@ -9,18 +9,19 @@ ghost use Rattle.runs.specs.Places.{AreApart};
 ghost use Rattle.seats.specs.Worked.{IsReady, IsWorked};
 
 use crate::seat::Seat;
-use imm_base::Memory;
+use imm_base::{Gate, Memory};
 use plain_model::{CellDecl, Listed, LocalLine, Part};
 use runs::run_parts;
 use std::alloc::Global;
 use std::sync::Wait;
 
 /// Does those of the parts that are this worker's among so many, and answers its local lines.
-/// Workers are counted from 1. `Err` is want of memory; which calls were made then no clause says.
-pub fn do_parts<'a, R: Wait>(
+/// Workers are counted from 1. `Err` is want of memory, of this worker or of another that stopped all;
+/// which calls were made then no clause says.
+pub fn do_parts<'a, R: Wait, G: Gate>(
     alloc: Global,
     decls: &[CellDecl],
-    seat: &mut Seat<'a, R>,
+    seat: &mut Seat<'a, R, G>,
     parts: &[Part],
     worker: u32,
     workers: u32,

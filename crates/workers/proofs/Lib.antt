@@ -1,3 +1,4 @@
+pub mod Sends
 pub mod Lists
 pub mod Columns
 pub mod Histories

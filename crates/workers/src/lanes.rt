@@ -6,3 +6,6 @@ pub(crate) struct Lane<S, T> {
     pub seat: S,
     pub told: Option<T>,
 }
+
+/// The most workers of a run. A cell has at most eight passes.
+pub const WORKERS_LIMIT: u32 = 8;

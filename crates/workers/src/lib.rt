@@ -9,5 +9,6 @@ mod run;
 mod tables;
 mod working;
 
+pub use lanes::WORKERS_LIMIT;
 pub use laws::workers_come_to_lawful_reports;
 pub use run::run_script;

@@ -11,6 +11,7 @@ use imm_base::Memory;
 use plain_model::{CellDecl, Line, Listed, LocalLine};
 use seats::{Seat, SharedCell, SharedPass, open_cell};
 use std::alloc::Global;
+use std::sync::atomic::AtomicBool;
 
 /// The first value of a cell.
 pub(crate) fn first_of(alloc: Global, decl: &CellDecl) -> Result<Collection, Memory>
@@ -74,19 +75,21 @@ fn new_logs(alloc: Global, cells: &[SharedCell]) -> Result<Vec<Listed<Line>>, Me
 }
 
 /// The seats of workers that have these passes of the cells.
-pub(crate) fn seat_all<'a, R>(
+pub(crate) fn seat_all<'a, R, G>(
     rt: &'a R,
+    gate: &'a G,
+    stop: &'a AtomicBool,
     alloc: Global,
     cells: &'a [SharedCell],
     passes: Vec<Vec<SharedPass>>,
-) -> Result<Vec<Lane<Seat<'a, R>, Listed<LocalLine>>>, Memory>
+) -> Result<Vec<Lane<Seat<'a, R, G>, Listed<LocalLine>>>, Memory>
     ensures { IfOk result (λ lanes. map (λ l. l.seat) lanes.items
         ≡ map (seat_of cells.entry.now) (map (λ its. its.items) passes.items)) }
 {
     let mut lanes = Vec::new(alloc);
     for its in passes {
         let logs = new_logs(alloc, cells)?;
-        let seat = Seat::new(rt, cells, its, logs);
+        let seat = Seat::new(rt, gate, stop, cells, its, logs);
         lanes.push(Lane { seat, told: None })?;
     }
     Ok(lanes)

@@ -2,6 +2,7 @@
 ghost use Rattle.std.specs.Prelude.{◌≡◌, ℕ, ◌<◌, ◌≤◌, All, IfOk, Some, length, map};
 ghost use Rattle.std.specs.Prelude.{slice_index_or};
 ghost use Rattle.std.specs.List.{AllByRecursion};
+ghost use Rattle.std.specs.Fork.{AcceptsEach, ChangesEach};
 ghost use Rattle.workers.specs.Hands.{columns_of};
 ghost use Rattle.workers.specs.Lanes.{HasWorkedAt};
 ghost use Rattle.workers.specs.Opened.{AreCells, all_passes};
@@ -10,14 +11,16 @@ ghost use Rattle.workers.specs.Tables.{AreColumnsOf};
 ghost use Rattle.workers.specs.Worked.{AreGathered};
 ghost use Rattle.seats.specs.Worked.{IsReady};
 
-use crate::lanes::Lane;
+use crate::lanes::{Lane, WORKERS_LIMIT};
 use crate::opening::seat_all;
 use crate::tables::transpose;
-use imm_base::Memory;
+use imm_base::{Gate, Memory};
 use plain_model::{Line, Listed, LocalLine, Script};
 use seats::{Seat, SharedCell, SharedPass, do_parts};
 use std::alloc::Global;
 use std::sync::Wait;
+use std::sync::atomic::AtomicBool;
+use std::thread::{Threads, for_each_mut};
 
 /// The passes and the logs after the last call, for each worker or for each cell, and what the
 /// workers told.
@@ -29,10 +32,10 @@ pub(crate) struct Done {
 }
 
 // Does the parts of one worker. It tells nothing where memory was wanting.
-fn work<'a, R: Wait>(
+fn work<'a, R: Wait, G: Gate>(
     alloc: Global,
     script: &Script,
-    lane: &mut Lane<Seat<'a, R>, Listed<LocalLine>>,
+    lane: &mut Lane<Seat<'a, R, G>, Listed<LocalLine>>,
     place: u32,
     workers: u32,
 )
@@ -44,15 +47,57 @@ fn work<'a, R: Wait>(
     let decls = script.cells.as_slice();
     let parts = script.parts.as_slice();
     let told = do_parts(alloc, decls, &mut lane.seat, parts, place + 1, workers);
+    if told.is_err() {
+        lane.seat.stop_all();
+    }
     lane.told = told.ok();
 }
 
-// Does the parts of all workers, one after another on the calling thread.
-fn work_all<'a, R: Wait>(
+// Does the work of each lane in a thread of its own.
+fn at_each<R: Threads + Sync, S: Send, T: Send, F: Fn(usize, &mut Lane<S, T>) + Sync>(
+    rt: &R,
+    lanes: &mut [Lane<S, T>],
+    work: &F,
+)
+    requires { AcceptsEach F.Fn work.now lanes.old }
+    ensures { ChangesEach F.Fn work.now lanes.old lanes.new }
+{
+    for_each_mut(rt, lanes, WORKERS_LIMIT as usize, work)
+}
+
+// Does the parts of all workers at once.
+fn work_each<'a, R: Threads + Wait + Sync, G: Gate>(
+    rt: &R,
     alloc: Global,
     script: &Script,
-    mut lanes: Vec<Lane<Seat<'a, R>, Listed<LocalLine>>>,
-) -> Vec<Lane<Seat<'a, R>, Listed<LocalLine>>>
+    lanes: &mut [Lane<Seat<'a, R, G>, Listed<LocalLine>>],
+    workers: u32,
+)
+    requires can { CanRun script.now }
+    requires ready { All (λ l. IsReady script.now.cells l.seat) lanes.old }
+    requires few { (length lanes.old ≡ workers) × (workers ≤ 8) }
+    ensures { (k : ℕ) (d : _) → k < length lanes.old
+        → HasWorkedAt script.now workers k
+        (slice_index_or lanes.old k d) (slice_index_or lanes.new k d) }
+{
+    at_each(
+        rt,
+        lanes,
+        &|index, lane: &mut Lane<Seat<R, G>, Listed<LocalLine>>|
+            requires { IsReady script.now.cells lane.now.seat × (index < workers) × (workers ≤ 8)
+                × CanRun script.now }
+            ensures { HasWorkedAt script.entry.now workers index lane.entry.now lane.exit.now }
+        { work(alloc, script, lane, index as u32, workers) },
+    );
+}
+
+// Does the parts of all workers at once, each in a thread of its own.
+fn work_all<'a, R: Threads + Wait + Sync, G: Gate>(
+    rt: &R,
+    alloc: Global,
+    script: &Script,
+    mut lanes: Vec<Lane<Seat<'a, R, G>, Listed<LocalLine>>>,
+) -> Vec<Lane<Seat<'a, R, G>, Listed<LocalLine>>>
     requires can { CanRun script.now }
     requires ready { All (λ l. IsReady script.now.cells l.seat) lanes.items }
     requires few { length lanes.items ≤ 8 }
@@ -61,23 +106,15 @@ fn work_all<'a, R: Wait>(
         → HasWorkedAt script.now (length lanes.entry.items) k
         (slice_index_or lanes.entry.items k d) (slice_index_or result.items k d) }
 {
-    let workers = lanes.len();
-    for place in 0..workers {
-        work(
-            alloc,
-            script,
-            &mut lanes[place],
-            place as u32,
-            workers as u32,
-        );
-    }
+    let workers = lanes.len() as u32;
+    work_each(rt, alloc, script, lanes.as_mut_slice(), workers);
     lanes
 }
 
 // What all workers did, worker by worker. Where one told nothing, memory was wanting.
-fn by_worker<'a, R>(
+fn by_worker<'a, R, G>(
     alloc: Global,
-    lanes: Vec<Lane<Seat<'a, R>, Listed<LocalLine>>>,
+    lanes: Vec<Lane<Seat<'a, R, G>, Listed<LocalLine>>>,
 ) -> Result<Done, Memory>
     ensures passes { IfOk result (λ done. map (λ its. its.items) done.passes.items
         ≡ map (λ l. l.seat.passes) lanes.entry.items) }
@@ -134,9 +171,10 @@ fn by_cell(alloc: Global, done: Done, cells: usize) -> Result<Done, Memory>
 
 /// What all workers of a script come to at these new cells, whose passes are given cell by cell.
 /// `Err` is want of memory.
-pub(crate) fn work_at<R: Wait>(
+pub(crate) fn work_at<R: Threads + Wait + Sync, G: Gate>(
     rt: &R,
     alloc: Global,
+    gate: &G,
     script: &Script,
     cells: &[SharedCell],
     passes: Vec<Vec<SharedPass>>,
@@ -151,8 +189,9 @@ pub(crate) fn work_at<R: Wait>(
         (map (λ its. its.items) done.logs.items)) done.locals) }
 {
     let rows = transpose(alloc, passes, workers as usize)?;
-    let lanes = seat_all(rt, alloc, cells, rows)?;
-    let lanes = work_all(alloc, script, lanes);
+    let stop = AtomicBool::new(false);
+    let lanes = seat_all(rt, gate, &stop, alloc, cells, rows)?;
+    let lanes = work_all(rt, alloc, script, lanes);
     let done = by_worker(alloc, lanes)?;
     let done = by_cell(alloc, done, cells.len())?;
     Ok(done)

@@ -23,7 +23,7 @@ transpose-requires g c =
     (all_wide c.args.workers c.args.script.now.cells c.args.cells.now c.requires.cells)
 
 pub work_all-lanes-requires-clause-ready : goal.work_all-lanes-requires-clause-ready
-work_all-lanes-requires-clause-ready g c =
+work_all-lanes-requires-clause-ready g c κs within =
     let rows = map (λ row. row.items) c.in_ok-rows.rows.items in
     let dealt = subst (λ (ps : List (List Known)). AreColumnsOf c.args.workers ps rows) c.requires.passes c.in_ok-rows.ensures in
     let olds : List WorkerLane = c.in_ok-lanes.lanes.items in
