@@ -53,7 +53,7 @@ fn words_of(alloc: Global, texts: &[&str]) -> Result<Vec<Word>, Fail> {
 
 fn sink_of(alloc: Global, room: u64) -> Result<MemSink, Fail> {
     let mut sink = MemSink::new(alloc, Vec::new(alloc), Some(room));
-    sink.reserve(1000).ok().ok_or("memory")?;
+    sink.reserve(room).ok().ok_or("memory")?;
     Ok(sink)
 }
 
