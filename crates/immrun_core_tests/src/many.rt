@@ -8,11 +8,16 @@ use std::test::Fail;
 // The calls of each worker.
 const EACH: u32 = 500;
 
-// The value of a push says whose it is, and the ordinal of its command.
+// The value of a push says whose it is, in thousands, and the ordinal of its command. The remainders
+// are those numbers themselves, and bound the sum.
+fn value_of(worker: u32, ordinal: u32) -> u32 {
+    1000 * (worker % 9) + ordinal % 1000
+}
+
 fn put_part(text: &mut String, worker: u32) -> Result<(), AllocError> {
     write!(text, "worker\n")?;
     for ordinal in 1..EACH + 1 {
-        let value = 1000 * (worker % 9) + ordinal;
+        let value = value_of(worker, ordinal);
         write!(text, "push S {value}\n")?;
     }
     write!(text, "end\n")
@@ -29,7 +34,7 @@ fn script(alloc: Global) -> Result<Vec<u8>, AllocError> {
 
 // The line of the next push of a worker, at a position.
 fn line_of(alloc: Global, position: u32, worker: u32, ordinal: u32) -> Result<String, AllocError> {
-    let value = 1000 * (worker % 9) + ordinal % 1000;
+    let value = value_of(worker, ordinal);
     let mut text = String::new(alloc);
     write!(text, "{position} {worker}.{ordinal} + push {value} -> true")?;
     Ok(text)

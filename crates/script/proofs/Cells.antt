@@ -10,6 +10,7 @@ use Rattle.plain_model.specs.declared.report.Version.{Version}
 use Rattle.plain_model.specs.declared.report.Version.TheVariants as versions
 use Rattle.plain_model.specs.Kinds.{is_cell_kind}
 use Rattle.plain_model.specs.Plain.{first_value, is_unset, made}
+use Rattle.plain_model.proofs.SetValues.{first_value_of}
 use Rattle.script_line.specs.declared.codes.Code.{Code}
 use Rattle.script_line.specs.declared.codes.Code.TheVariants as codes
 use Rattle.script_line.proofs.Judgements.{both_ok}
@@ -43,16 +44,8 @@ cell_checked_too version cells cell u e =
 
 set_first : (k : Kind) (vs : Values) → (is_cell_kind k || not (is_unset vs)) ≡ true → first_value k vs ≡ made k vs
 set_first kinds.Array values.Unset e = absurd cc
-set_first kinds.Array (values.List xs) e = refl
-set_first kinds.Array (values.Pairs ps) e = refl
-set_first kinds.Array (values.Seq first n) e = refl
-set_first kinds.List vs e = refl
-set_first kinds.Stack vs e = refl
-set_first kinds.Queue vs e = refl
-set_first (kinds.SSet order) vs e = refl
-set_first (kinds.SMap order) vs e = refl
-set_first (kinds.Dict eq) vs e = refl
-set_first (kinds.HSet eq) vs e = refl
+set_first kinds.Array vs e = refl
+set_first k vs e = first_value_of k vs refl
 
 -- a cell that passes begins with its first contents
 pub begins_with_contents : (version : Version) (cell : CellDecl) → may_begin version cell ≡ true → first_value cell.kind cell.values ≡ made cell.kind cell.values
