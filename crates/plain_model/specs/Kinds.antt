@@ -132,6 +132,42 @@ takes (kinds.SMap order) op = map_takes op
 takes (kinds.Dict eq) op = map_takes op
 takes (kinds.HSet eq) op = set_takes op
 
+-- ---- builders and walks
+
+-- the kinds that have a builder
+abbrev pub has_builder : Kind → Bool
+has_builder kinds.Stack = false
+has_builder kinds.Queue = false
+has_builder _ = true
+
+abbrev pub list_builder_takes : PlainOp → Bool
+list_builder_takes (ops.GetRange i k) = false
+list_builder_takes op = list_takes op
+
+abbrev pub array_builder_takes : PlainOp → Bool
+array_builder_takes (ops.Add v) = true
+array_builder_takes (ops.AddRange src) = true
+array_builder_takes (ops.Insert i v) = true
+array_builder_takes (ops.RemoveAt i) = true
+array_builder_takes (ops.SetItem i v) = true
+array_builder_takes ops.Clear = true
+array_builder_takes _ = false
+
+-- builders of the kind have the operation
+abbrev pub builder_takes : Kind → PlainOp → Bool
+builder_takes kinds.List op = list_builder_takes op
+builder_takes kinds.Array op = array_builder_takes op
+builder_takes kinds.Stack op = false
+builder_takes kinds.Queue op = false
+builder_takes kind op = takes kind op
+
+-- the kinds that a walk goes along
+abbrev pub is_walked : Kind → Bool
+is_walked kinds.Array = false
+is_walked kinds.Stack = false
+is_walked kinds.Queue = false
+is_walked _ = true
+
 -- ---- questions
 
 abbrev pub list_answers : Query → Bool

@@ -1,5 +1,6 @@
 -- Names, each with what it is bound to.
-use Rattle.std.specs.Prelude.{ℕ, List, [], ◌∷◌, Bool, true, false, Option, Some, None, bytes_eq, if◌then◌else◌}
+use Rattle.std.specs.Prelude.{ℕ, List, [], ◌∷◌, slice_get, slice_set, Bool, true, false, Option, Some, None, bytes_eq, if◌then◌else◌}
+use Rattle.std.specs.Option.{option_map_or}
 use Rattle.plain_model.specs.declared.plain.Kind.{Kind}
 use Rattle.plain_model.specs.declared.names.Class.{Class}
 use Rattle.plain_model.specs.declared.names.Class.TheVariants as classes
@@ -20,6 +21,10 @@ get (b ∷ names) x = if bytes_eq b.0 x then Some b.1 else get names x
 abbrev pub with_name : {T : Type 0} → Name → T → Bindings T → Bindings T
 with_name x value [] = (x, value) ∷ []
 with_name x value (b ∷ names) = if bytes_eq b.0 x then (x, value) ∷ names else b ∷ with_name x value names
+
+-- the names where the one at the place is bound so
+abbrev pub with_value_at : {T : Type 0} → ℕ → T → Bindings T → Bindings T
+with_value_at place value names = option_map_or (λ b. slice_set names place (b.0, value)) (slice_get names place) names
 
 -- ---- classes
 

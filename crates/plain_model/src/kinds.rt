@@ -4,7 +4,8 @@ ghost use Rattle.plain_model.specs.Kinds.{is_cell_kind, items_of_kind, items_of_
 ghost use Rattle.plain_model.specs.Kinds.{list_takes, array_takes, stack_takes, queue_takes};
 ghost use Rattle.plain_model.specs.Kinds.{set_takes, map_takes, takes, list_answers, array_answers};
 ghost use Rattle.plain_model.specs.Kinds.{end_answers, sorted_set_answers, hash_set_answers};
-ghost use Rattle.plain_model.specs.Kinds.{map_answers, answers};
+ghost use Rattle.plain_model.specs.Kinds.{map_answers, answers, has_builder, builder_takes};
+ghost use Rattle.plain_model.specs.Kinds.{list_builder_takes, array_builder_takes, is_walked};
 
 use crate::{Kind, PlainOp, Query};
 
@@ -74,6 +75,39 @@ impl Kind {
         }
     }
 
+    /// Whether collections of this kind have a builder.
+    pub fn has_builder(self) -> bool
+        ensures { result ≡ has_builder self }
+    {
+        match self {
+            Kind::Stack | Kind::Queue => false,
+            _ => true,
+        }
+    }
+
+    /// Whether builders of this kind have the operation: what takes a part out of a list has no
+    /// place there, and a builder of arrays has few operations.
+    pub fn builder_takes(self, op: &PlainOp) -> bool
+        ensures { result ≡ builder_takes self op.now }
+    {
+        match self {
+            Kind::List => list_builder_takes(op),
+            Kind::Array => array_builder_takes(op),
+            Kind::Stack | Kind::Queue => false,
+            _ => self.takes(op),
+        }
+    }
+
+    /// Whether a walk may go along collections of this kind.
+    pub fn is_walked(self) -> bool
+        ensures { result ≡ is_walked self }
+    {
+        match self {
+            Kind::Array | Kind::Stack | Kind::Queue => false,
+            _ => true,
+        }
+    }
+
     /// Whether collections of this kind answer the question.
     pub fn answers(self, query: &Query) -> bool
         ensures { result ≡ answers self query.now }
@@ -133,6 +167,29 @@ fn array_takes(op: &PlainOp) -> bool
         | PlainOp::RemoveAt(_)
         | PlainOp::Remove(_)
         | PlainOp::Replace(_, _)
+        | PlainOp::SetItem(_, _)
+        | PlainOp::Clear => true,
+        _ => false,
+    }
+}
+
+fn list_builder_takes(op: &PlainOp) -> bool
+    ensures { result ≡ list_builder_takes op.now }
+{
+    match op {
+        PlainOp::GetRange(_, _) => false,
+        _ => list_takes(op),
+    }
+}
+
+fn array_builder_takes(op: &PlainOp) -> bool
+    ensures { result ≡ array_builder_takes op.now }
+{
+    match op {
+        PlainOp::Add(_)
+        | PlainOp::AddRange(_)
+        | PlainOp::Insert(_, _)
+        | PlainOp::RemoveAt(_)
         | PlainOp::SetItem(_, _)
         | PlainOp::Clear => true,
         _ => false,

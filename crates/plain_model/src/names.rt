@@ -1,9 +1,11 @@
 //! Local names: what each is bound to, for the grammar and for a run.
-ghost use Rattle.std.specs.Prelude.{◌≡◌, [], ◌∷◌, ◌++◌, length, is_some, OnOk, OnErr, bytes_eq};
+ghost use Rattle.std.specs.Prelude.{◌≡◌, ◌<◌, [], ◌∷◌, ◌++◌, length, slice_get, is_some, Some, option_map, OnOk, OnErr, bytes_eq};
+ghost use Rattle.std.specs.Borrow.{sem};
 ghost use Rattle.std.specs.List.{position};
-ghost use Rattle.std.specs.Option.{option_copied};
+ghost use Rattle.std.specs.Option.{option_copied, option_copied_mut};
 ghost use Rattle.plain_model.specs.Names.{get, with_name, contents_kind, collection_kind};
 ghost use Rattle.plain_model.specs.Names.{is_alike_class};
+ghost use Rattle.plain_model.specs.NamesLends.{lends_get, lends_value};
 
 use crate::Kind;
 use imm_base::{Memory, Text24};
@@ -13,7 +15,7 @@ use std::marker::Model;
 /// Names, each with what it is bound to, in the order in which they were first bound. Contracts
 /// see the list of names with values.
 ///
-/// `get` and `bind` take O(n) steps for n names.
+/// `get`, `get_mut` and `bind` take O(n) steps for n names.
 #[derive(Debug, Drop)]
 pub struct Names<T> {
     bindings: Vec<(Text24, T)>,
@@ -52,6 +54,27 @@ impl<T> Names<T> {
         ensures { option_copied result ≡ get self.now name.now }
     {
         value_of(self.bindings.as_slice(), name)
+    }
+
+    /// What a name is bound to, to be changed, if it is bound.
+    #[tactic(auto, using(crate::proofs::Bindings::place_within))]
+    pub fn get_mut(&mut self, name: &Text24) -> Option<&mut T>
+        ensures* writes_back { sem 𝓛 (lends_get T.row self.entry name.now result) }
+        ensures value { option_copied_mut result ≡ get self.old name.now }
+    {
+        match place_of(self.bindings.as_slice(), *name) {
+            Some(place) => Some(self.value_mut(place)),
+            None => None,
+        }
+    }
+
+    // What the name at the place is bound to, to be changed.
+    fn value_mut(&mut self, place: usize) -> &mut T
+        requires { place < length self.old }
+        ensures* writes_back { sem 𝓛 (lends_value T.row self.entry place result) }
+        ensures value { option_map (λ b. b.1) (slice_get self.old place) ≡ Some result.now }
+    {
+        &mut self.bindings[place].1
     }
 
     /// Whether a name is bound.
