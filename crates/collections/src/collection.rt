@@ -36,9 +36,9 @@ pub struct Collection {
     repr: Repr,
 }
 
-// The collection of each kind.
+/// The collection of each kind.
 #[derive(Drop)]
-pub(crate) enum Repr {
+pub enum Repr {
     List(ImmList<Val>),
     Array(ImmArray<Val>),
     Stack(ImmStack<Val>),
@@ -94,10 +94,18 @@ impl Collection {
         })
     }
 
-    pub(crate) fn of_repr(repr: Repr) -> Collection
+    /// The collection that is of one kind here.
+    pub fn of_repr(repr: Repr) -> Collection
         ensures { result ≡ plain_of repr }
     {
         Collection { repr }
+    }
+
+    /// The collection of its kind.
+    pub fn repr(&self) -> &Repr
+        ensures { plain_of result.now ≡ self.now }
+    {
+        &self.repr
     }
 
     /// The kind, with its comparer. O(1).

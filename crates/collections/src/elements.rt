@@ -9,7 +9,7 @@ use plain_model::Values;
 use std::alloc::Global;
 
 /// The elements that are meant. O(n).
-pub(crate) fn elements(alloc: Global, values: &Values) -> Result<Vec<Val>, Memory>
+pub fn elements(alloc: Global, values: &Values) -> Result<Vec<Val>, Memory>
     requires { is_within values.now ≡ true }
     ensures { IfOk result (λ v. v.items ≡ elements values.now) }
 {
@@ -21,7 +21,7 @@ pub(crate) fn elements(alloc: Global, values: &Values) -> Result<Vec<Val>, Memor
 }
 
 /// The pairs that are meant. O(n).
-pub(crate) fn pairs(alloc: Global, values: &Values) -> Result<Vec<(Val, Val)>, Memory>
+pub fn pairs(alloc: Global, values: &Values) -> Result<Vec<(Val, Val)>, Memory>
     requires { is_within values.now ≡ true }
     ensures { IfOk result (λ v. v.items ≡ pairs values.now) }
 {

@@ -15,6 +15,7 @@ mod sorted_map;
 mod sorted_set;
 mod stack;
 
-pub use collection::Collection;
+pub use collection::{Collection, Repr};
+pub use elements::{elements, pairs};
 pub use frozen::{FrozenCollection, frozen_answers};
-pub use of_kind::{Changed, Judged};
+pub use of_kind::{Changed, Judged, judged};

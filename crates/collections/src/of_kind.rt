@@ -63,7 +63,7 @@ pub(crate) trait HasComparer: OfKind {
 }
 
 /// What a call of a crate of collections comes to.
-pub(crate) fn judged<T: Drop, F: Fault<Val>>(called: Result<T, F>) -> Judged<T>
+pub fn judged<T: Drop, F: Fault<Val>>(called: Result<T, F>) -> Judged<T>
     ensures { result ≡ judged_by F.why called }
 {
     match called {
