@@ -40,7 +40,7 @@ pub enum WalkFault {
 impl Walk {
     /// A handle of nobody: each call on it is refused as `Disposed`.
     pub fn none() -> Walk
-        ensures { result.owner.number ≡ 0 }
+        ensures { result ≡ record { owner = record { number = 0; place = 0 }; made = 0 } }
     {
         Walk {
             owner: Owner {
