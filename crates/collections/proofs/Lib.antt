@@ -2,7 +2,7 @@ pub mod Arrays
 pub mod Comparers
 pub mod Dicts
 pub mod HashSets
-pub mod Judged
+pub mod JudgedCalls
 pub mod Lists
 pub mod Maps
 pub mod Projections

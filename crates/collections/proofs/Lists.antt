@@ -17,7 +17,7 @@ use Rattle.plain_model.specs.declared.plain.Values.TheVariants as values
 use Rattle.plain_model.specs.Plain.{count, filled, made, of_list}
 use Rattle.collections.specs.Changes.{judged_by, change_map, made_map, or_unchanged}
 use Rattle.collections.specs.Kinds.{kind_of}
-use Rattle.collections.proofs.Judged.{judged_is}
+use Rattle.collections.proofs.JudgedCalls.{judged_is}
 
 module _ (kind : Kind) where
   edit_given : (xs : List Val) (answer : Edit (List Val)) (gives : Gives Val (List Val)) → IsEdit answer gives

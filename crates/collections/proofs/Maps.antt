@@ -21,7 +21,7 @@ use Rattle.plain_model.specs.Locals.{pairs_or_present}
 use Rattle.plain_model.specs.Plain.{count, filled, made, of_pairs, pairs}
 use Rattle.collections.specs.Changes.{judged_by, change_map, made_map, or_unchanged, new_or_refused}
 use Rattle.collections.specs.Kinds.{kind_of_pairs}
-use Rattle.collections.proofs.Judged.{judged_is, or_unchanged-map}
+use Rattle.collections.proofs.JudgedCalls.{judged_is, or_unchanged-map}
 
 new_is : (kind : Kind) (over : Bool) (m : Entries Val Val)
     → or_unchanged (kind_of_pairs kind []) (of_pairs (kind_of_pairs kind []) (if over then Err (too_large 0) else Ok (New m)))

@@ -17,7 +17,7 @@ use Rattle.plain_model.specs.declared.history.Refusal.TheVariants as refusals
 use Rattle.plain_model.specs.Plain.{filled, made, of_list}
 use Rattle.collections.specs.Changes.{judged_by, change_map, made_map, or_unchanged}
 use Rattle.collections.specs.Kinds.{kind_of}
-use Rattle.collections.proofs.Judged.{judged_is, or_unchanged-map}
+use Rattle.collections.proofs.JudgedCalls.{judged_is, or_unchanged-map}
 use Rattle.collections.proofs.Lists.{made_of}
 
 new_is : (kind : Kind) (over : Bool) (xs : List Val)

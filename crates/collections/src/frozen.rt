@@ -10,7 +10,7 @@ ghost use Rattle.collections.specs.Frozen.{frozen_answers, frozen_has_answer, fr
 ghost use Rattle.collections.specs.Frozen.{frozen_set_answers};
 
 use crate::answers::{first_in, value_or_none};
-use crate::elements::{elements, pairs};
+use crate::arguments::{elements, pairs};
 use frozen_sets::{FrozenMap, FrozenSet};
 use imm_base::{Memory, Val, ValEq};
 use plain_model::{Answer, Kind, Listed, Query, Values};

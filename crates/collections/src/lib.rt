@@ -2,10 +2,11 @@
 #![tactic(auto)]
 
 mod answers;
+mod arguments;
 mod array;
 mod collection;
 mod dict;
-mod elements;
+
 mod frozen;
 mod hash_set;
 mod list;
@@ -16,6 +17,6 @@ mod sorted_set;
 mod stack;
 
 pub use collection::{Collection, Repr};
-pub use elements::{elements, pairs};
+pub use arguments::{elements, pairs};
 pub use frozen::{FrozenCollection, frozen_answers};
 pub use of_kind::{Changed, Judged, judged};

@@ -5,7 +5,7 @@ use Rattle.imm_base.specs.declared.val.Val.{Val}
 use Rattle.imm_base.specs.declared.val.Val.TheVariants.{Int}
 use Rattle.plain_model.specs.Plain.{integers_from}
 use Rattle.collections.proofs.Sequences.{pairs_of_integers}
-use Rattle.collections.proofs.elements.pairs_from.Goals as goal
+use Rattle.collections.proofs.arguments.pairs_from.Goals as goal
 
 pub returns : goal.returns
 returns c =
