@@ -11,8 +11,8 @@ ghost use Rattle.collections.specs.Kinds.{array_of};
 
 use crate::Collection;
 use crate::answers::{first_in, place_or_none, value_or};
-use crate::collection::Repr;
 use crate::arguments::elements;
+use crate::collection::Repr;
 use crate::of_kind::{Changed, Judged, OfKind, judged};
 use imm_array::{ArrayFault, ImmArray};
 use imm_base::{Edit, Memory, Val};

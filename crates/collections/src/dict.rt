@@ -10,8 +10,8 @@ ghost use Rattle.collections.specs.Kinds.{dict_of};
 
 use crate::Collection;
 use crate::answers::{first_in, value_or_none};
-use crate::collection::Repr;
 use crate::arguments::{elements, pairs};
+use crate::collection::Repr;
 use crate::of_kind::{Changed, HasComparer, Judged, OfKind, judged, or_unchanged};
 use imm_base::{Edit, MapFault, Memory, Val, ValEq};
 use imm_dictionary::Dict;

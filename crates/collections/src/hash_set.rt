@@ -12,8 +12,8 @@ ghost use Rattle.collections.specs.Kinds.{hash_set_of};
 
 use crate::Collection;
 use crate::answers::{first_in, value_or_none};
-use crate::collection::Repr;
 use crate::arguments::elements;
+use crate::collection::Repr;
 use crate::of_kind::{Changed, HasComparer, Judged, OfKind, judged, or_unchanged};
 use imm_base::{Edit, Memory, SetFault, SetTest, Val, ValEq};
 use imm_dictionary::ImmHashSet;

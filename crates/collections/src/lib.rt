@@ -6,7 +6,6 @@ mod arguments;
 mod array;
 mod collection;
 mod dict;
-
 mod frozen;
 mod hash_set;
 mod list;
@@ -16,7 +15,7 @@ mod sorted_map;
 mod sorted_set;
 mod stack;
 
-pub use collection::{Collection, Repr};
 pub use arguments::{elements, pairs};
+pub use collection::{Collection, Repr};
 pub use frozen::{FrozenCollection, frozen_answers};
 pub use of_kind::{Changed, Judged, judged};

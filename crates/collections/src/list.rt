@@ -9,8 +9,8 @@ ghost use Rattle.collections.specs.Kinds.{list_of};
 
 use crate::Collection;
 use crate::answers::{first_of, place_or_none, value_or};
-use crate::collection::Repr;
 use crate::arguments::elements;
+use crate::collection::Repr;
 use crate::of_kind::{Changed, Judged, OfKind, judged};
 use imm_base::{Edit, Memory, Val, ValOrder};
 use imm_list::{ImmList, ListFault};

@@ -14,8 +14,8 @@ ghost use Rattle.collections.specs.Kinds.{queue_of};
 
 use crate::Collection;
 use crate::answers::first_in;
-use crate::collection::Repr;
 use crate::arguments::elements;
+use crate::collection::Repr;
 use crate::of_kind::{Changed, Judged, OfKind, judged};
 use imm_base::{Edit, LIMIT, Memory, Val};
 use plain_model::{Answer, Kind, Listed, PlainOp, Query, Refusal, Values};

@@ -12,8 +12,8 @@ ghost use Rattle.collections.specs.Kinds.{sorted_map_of};
 
 use crate::Collection;
 use crate::answers::{first_of, keys, value_or_none, values};
-use crate::collection::Repr;
 use crate::arguments::{elements, pairs};
+use crate::collection::Repr;
 use crate::of_kind::{Changed, HasComparer, Judged, OfKind, judged, or_unchanged};
 use imm_base::{Edit, MapFault, Memory, Pair, Val, ValOrder};
 use plain_model::{Answer, Comparer, Kind, Listed, PlainOp, Query, Values};

@@ -12,8 +12,8 @@ ghost use Rattle.collections.specs.Kinds.{sorted_set_of};
 
 use crate::Collection;
 use crate::answers::{first_of, value_or, value_or_none};
-use crate::collection::Repr;
 use crate::arguments::elements;
+use crate::collection::Repr;
 use crate::of_kind::{Changed, HasComparer, Judged, OfKind, judged, or_unchanged};
 use imm_base::{Edit, Memory, SetFault, SetTest, Val, ValOrder};
 use plain_model::{Answer, Comparer, Kind, Listed, PlainOp, Query, Refusal, Values};
