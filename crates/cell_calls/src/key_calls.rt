@@ -1,11 +1,11 @@
 //! Calls with a key, on dictionaries and sorted maps.
-ghost use Rattle.std.specs.Prelude.{◌≡◌, ◌+◌, false, Ok, IfOk};
+ghost use Rattle.std.specs.Prelude.{◌≡◌, ◌+◌, false, true, Ok, IfOk};
 ghost use Rattle.imm_base.specs.declared.val.Edit.TheVariants.{New};
 ghost use Rattle.imm_base.specs.Edits.{is_over};
 ghost use Rattle.imm_base.specs.Order.{val_eq};
 ghost use Rattle.plain_model.specs.declared.commands.PlainOp.TheVariants as ops;
 ghost use Rattle.plain_model.specs.declared.commands.PlainCall.TheVariants as calls;
-ghost use Rattle.plain_model.specs.Cell.{add_if_room, add_or_update, cell, get_or_add, is_map, put_unless_equal, with_value};
+ghost use Rattle.plain_model.specs.Cell.{add_if_room, add_or_update, cell, get_or_add, is_map, put_unless_equal, value_in, with_value};
 ghost use Rattle.plain_model.specs.Plain.{count, plain, shape_of};
 ghost use Rattle.cell_calls.specs.Lookups.{IsLookup};
 ghost use Rattle.cell_calls.specs.Outcomes.{GivesOther, plain_outcome};
@@ -48,6 +48,18 @@ fn look_up(alloc: Global, old: &Collection, key: &Val) -> Result<Lookup, Memory>
         };
     }
     Ok(Lookup::NoKeys)
+}
+
+/// The value of the key, if it has one, in the time of the collection's own lookup.
+pub fn value_in(alloc: Global, map: &Collection, key: &Val) -> Result<Option<Val>, Memory>
+    requires { is_map (shape_of map.now.kind) ≡ true }
+    ensures { IfOk result (λ found. found ≡ value_in key.now map.now) }
+{
+    match look_up(alloc, map, key)? {
+        Lookup::Present(value) => Ok(Some(value)),
+        Lookup::Absent => Ok(None),
+        Lookup::NoKeys => unreachable!(),
+    }
 }
 
 /// Whether one pair more would be too many.

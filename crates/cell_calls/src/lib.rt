@@ -8,4 +8,5 @@ mod key_calls;
 mod outcome;
 
 pub use call::CellCall;
+pub use key_calls::value_in;
 pub use outcome::Outcome;

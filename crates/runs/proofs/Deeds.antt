@@ -8,6 +8,9 @@ use Rattle.std.proofs.lemmas.List.{append-nil}
 use Rattle.std.proofs.lemmas.Slice.Eq.{bytes_eq-Decides}
 use Rattle.plain_model.specs.declared.plain.Plain.{Plain}
 use Rattle.plain_model.specs.declared.plain.Kind.{Kind}
+use Rattle.imm_base.specs.declared.val.Val.{Val}
+use Rattle.plain_model.specs.declared.commands.Factory.{Factory}
+use Rattle.plain_model.specs.declared.commands.Probe.{Probe}
 use Rattle.plain_model.specs.declared.commands.PlainCall.{PlainCall}
 use Rattle.plain_model.specs.declared.commands.PlainCall.TheVariants as calls
 use Rattle.plain_model.specs.declared.commands.Command.{Command}
@@ -165,6 +168,30 @@ module _ {S : Type 0} (makes : S → Note → S → Type 0) (decls : List CellDe
           ∙ ap (λ v. Some (done_by_call o name calls.Read (bind x (collection (value_read v)) w.names))) (value n reports t)
           ∙ ap (λ v. Some (done_by_call o name calls.Read (bind x (collection v) w.names))) (value_of_set p set)
           ∙ ap (λ z. Some (record { deed = on_cell name z; after = bind x (collection p) w.names })) (sym h.numbered)
+
+  -- a command that adds what a factory makes: its line says whether that ran
+  pub made_is_done : (k : Val) (make : Factory) (probe : Probe) (w : Worker) → cell_place decls name < length decls → Makes makes s (cell_place decls name) o (calls.GetOrAddMade k make probe) None s'
+      → IsDone makes decls o (commands.GetOrAddMade name k make) s w s' w
+  made_is_done k make probe w within h = record {
+    notes = h.note ∷ [];
+    deed = on_cell name (numbered h.note.line);
+    connects = (s', h.made, refl);
+    lines = sym (append-nil w.lines);
+    calls = matched decls name h.note apart (sym h.place) (let e = h.place in omega arith);
+    leaves = refl;
+    done = λ n reports at stands. made_there n reports at stands.0;
+  }
+    where
+      done_by : Option Line → Option Done
+      done_by found = found >>= λ l. probe_of l.call >>= λ p. Some (done_by_call o name (calls.GetOrAddMade k make p.1) w.names)
+
+      made_there : (n : ℕ) (reports : List CellReport) → decls_in reports ≡ decls → IsReported n reports h.note
+          → deed_of reports n o (commands.GetOrAddMade name k make) w.names ≡ Some (record { deed = on_cell name (numbered h.note.line); after = w.names })
+      made_there n reports at t =
+          ap (λ c. c >>= λ r. done_by (line_of n o r.lines)) (named decls reports name h.note.place t.report at (sym h.place) t.at)
+          ∙ ap done_by (ap (λ i. line_of n i t.report.lines) (sym (ap (λ (z : Numbered). z.ordinal) h.numbered)) ∙ t.line)
+          ∙ ap (λ call. probe_of call >>= λ p. Some (done_by_call o name (calls.GetOrAddMade k make p.1) w.names)) (ap (λ (z : Numbered). z.call) h.numbered)
+          ∙ ap (λ z. Some (record { deed = on_cell name z; after = w.names })) (sym h.numbered)
 
 -- a publication that is no call yet
 pub published : (x name : Name) (p : Plain) (o : ℕ) (m : Locals) → collection_at m x ≡ Some p → nat_lt PUBLISH_LIMIT (count p.values) ≡ false

@@ -12,10 +12,10 @@ use Rattle.plain_model.specs.declared.report.LocalLine.{LocalLine}
 use Rattle.plain_model.specs.declared.report.Part.{Part}
 use Rattle.plain_model.specs.declared.report.Script.{Script}
 use Rattle.plain_model.specs.Cell.{after}
-use Rattle.plain_model.specs.History.{FitsFrom, last_value, value_at, Whole, calls_of, numbered, Numbered, probe_of}
+use Rattle.plain_model.specs.History.{FitsFrom, last_value, value_at, Whole, calls_of, numbered, Numbered}
 use Rattle.plain_model.specs.Work.{Deed, calls_at, line_of, value_then, work_from}
 use Rattle.plain_model.specs.Lawful.{Lawful, IsCellRun, HasWorked, IsWorkOf, parts_of}
-use Rattle.plain_model.proofs.HistorySteps.{value_there, line_found, no_probes}
+use Rattle.plain_model.proofs.HistorySteps.{value_there, line_found}
 use Rattle.plain_model.proofs.HistorySteps as steps
 use Rattle.runs.specs.declared.cell_run.CellRun.{CellRun}
 use Rattle.runs.specs.declared.one_thread.OneThread.{OneThread}
@@ -178,14 +178,10 @@ of_one : (o : ℕ) (h : List Line) → AllByRecursion (IsEarlier o) h → AllByR
 of_one o [] all = tt
 of_one o (l ∷ h) all = (let e = all.0.caller in (omega arith, omega arith), of_one o h all.1)
 
-without_probes : (o : ℕ) (h : List Line) → AllByRecursion (IsEarlier o) h → AllByRecursion (λ l. probe_of l.call ≡ None) h
-without_probes o [] all = tt
-without_probes o (l ∷ h) all = (all.0.probe, without_probes o h all.1)
-
 is_cell_run : (o : ℕ) (c : CellRun) → IsSoFar o c → IsCellRun 1 (report_of c)
 is_cell_run o c s = record {
   first = s.first;
-  legal = record { steps = s.fits; order = s.order; probes = no_probes c.first [] c.lines (without_probes o c.lines s.earlier) };
+  legal = record { steps = s.fits; order = s.order; probes = s.probes };
   callers = of_one o c.lines s.earlier;
   last = s.value;
 }

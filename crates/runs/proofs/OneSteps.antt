@@ -1,10 +1,14 @@
 -- The cells of one thread after a call on one of them.
-use Rattle.std.proofs.Common.{◌≡◌, ℕ, zero, suc, ◌+◌, ◌<◌, Bool, true, false, eqb, List, [], ◌∷◌, length, get_or, set, Some, refl, ap, sym, subst, ◌∙◌, arith}
+use Rattle.std.proofs.Common.{◌≡◌, ℕ, zero, suc, ◌+◌, ◌<◌, Bool, true, false, eqb, List, [], ◌∷◌, length, get_or, set, None, Some, refl, ap, sym, subst, ◌∙◌, arith}
 use Rattle.std.specs.Prelude.{map, slice_get}
 use Rattle.plain_model.specs.declared.plain.Kind.{Kind}
 use Rattle.plain_model.specs.declared.plain.Plain.{Plain}
+use Rattle.plain_model.specs.declared.commands.PlainCall.{PlainCall}
+use Rattle.plain_model.specs.History.{Numbered}
 use Rattle.runs.specs.declared.cell_run.CellRun.{CellRun}
-use Rattle.runs.specs.OneThread.{IsSoFar}
+use Rattle.runs.specs.declared.one_thread.OneThread.{OneThread}
+use Rattle.runs.specs.Notes.{Makes}
+use Rattle.runs.specs.OneThread.{IsSoFar, HasCalled, AreSoFar, CallsOne}
 use Rattle.runs.specs.Waits.{so_far_later}
 
 -- the kind that a cell is declared with
@@ -50,3 +54,24 @@ all_set (x ∷ xs) zero a o each now zero c lt = now
 all_set (x ∷ xs) zero a o each now (suc k) c lt = so_far_later o (get_or xs k c) (each (suc k) c (omega arith))
 all_set (x ∷ xs) (suc i) a o each now zero c lt = so_far_later o x (each 0 c (omega arith))
 all_set (x ∷ xs) (suc i) a o each now (suc k) c lt = all_set xs i a o (λ j d h. each (suc j) d (omega arith)) now k c (omega arith)
+
+-- the cells made the call that one of them made
+pub call_is_made : (s t : OneThread) (place o : ℕ) (call : PlainCall) (before after : CellRun) → AreSoFar s o → place < length s.cells.items → before ≡ get_or s.cells.items place before
+    → HasCalled o call before after → t.cells.items ≡ set s.cells.items place after → Makes CallsOne s place o call None t
+call_is_made s t place o call before after far within at one cells = record {
+  note = record { place = place; line = one.line; value = None };
+  place = refl;
+  numbered = one.numbered;
+  value = refl;
+  made = record {
+    before = before;
+    after = after;
+    within = within;
+    at = at;
+    cells = cells;
+    so_far = subst (λ n. IsSoFar n before) (sym (ap (λ (n : Numbered). n.ordinal) one.numbered)) (subst (IsSoFar o) (sym at) (far.each place before within));
+    caller = one.caller;
+    goes_on = one.goes_on;
+    read = tt;
+  };
+}

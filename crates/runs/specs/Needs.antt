@@ -15,6 +15,7 @@ use Rattle.plain_model.specs.Work.{call_of}
 use Rattle.cell_calls.specs.Calls.{PlainSuits}
 use Rattle.plain_model.specs.Locals.{Locals, Given, gives, bind, collection, collection_at, local}
 use Rattle.locals.specs.Results.{can_run}
+use Rattle.runs.specs.Calls.{HasKeys}
 use Rattle.runs.specs.Places.{cell_place, kinds_of}
 
 -- the name is bound to a collection of the cell's kind
@@ -43,6 +44,7 @@ CanCallOrAnswer decls None c s = CanAnswer c s
 abbrev pub CanDo : List CellDecl → Command → Locals → Type 0
 CanDo decls (commands.Read cell x) s = cell_place decls cell < length decls
 CanDo decls (commands.Publish cell x) s = CanPublish decls cell x s
+CanDo decls (commands.GetOrAddMade cell k make) s = HasKeys (kinds_of decls) (cell_place decls cell)
 CanDo decls c s = CanCallOrAnswer decls (call_of c) c s
 
 -- ---- names after a command
@@ -65,6 +67,7 @@ CallsOrIsAnswered None c s after = IsAnswered c s after
 abbrev pub Leaves : List CellDecl → Command → Locals → Locals → Type 0
 Leaves decls (commands.Read cell x) s after = BindsRead decls cell x s after
 Leaves decls (commands.Publish cell x) s after = after ≡ s
+Leaves decls (commands.GetOrAddMade cell k make) s after = after ≡ s
 Leaves decls c s after = CallsOrIsAnswered (call_of c) c s after
 
 -- each command can be done, whatever the names that those before it leave

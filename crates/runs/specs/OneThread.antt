@@ -1,5 +1,5 @@
 -- Cells during a run on one thread.
-use Rattle.std.specs.Prelude.{◌≡◌, ℕ, Bool, ◌+◌, ◌<◌, List, [], ◌∷◌, ◌++◌, length, map, Option, None, Ok, IfSome, is_some, unwrap_or, if◌then◌else◌, slice_index_or, slice_set}
+use Rattle.std.specs.Prelude.{◌≡◌, ℕ, Bool, ◌+◌, ◌<◌, List, [], ◌∷◌, ◌++◌, length, map, Option, Ok, IfSome, is_some, unwrap_or, if◌then◌else◌, slice_index_or, slice_set}
 use Rattle.std.specs.List.{AllByRecursion}
 use Rattle.plain_model.specs.declared.plain.Kind.{Kind}
 use Rattle.plain_model.specs.declared.commands.PlainCall.{PlainCall}
@@ -9,7 +9,7 @@ use Rattle.plain_model.specs.declared.report.CellDecl.{CellDecl}
 use Rattle.plain_model.specs.declared.report.CellReport.{CellReport}
 use Rattle.plain_model.specs.Plain.{first_value}
 use Rattle.plain_model.specs.Cell.{Outcome}
-use Rattle.plain_model.specs.History.{FitsFrom, InOrder, last_value, position_after, probe_of, numbered}
+use Rattle.plain_model.specs.History.{FitsFrom, InOrder, ProbesFrom, last_value, position_after, numbered}
 use Rattle.runs.specs.declared.cell_run.CellRun.{CellRun}
 use Rattle.runs.specs.declared.one_thread.OneThread.{OneThread}
 use Rattle.runs.specs.Notes.{Note}
@@ -41,11 +41,10 @@ after_call o call out c = record {
   lines = c.lines ++ line_of_call o call out c.position ∷ [];
 }
 
--- a line of the one worker with an ordinal below this one, and of no factory
+-- a line of the one worker with an ordinal below this one
 pub record IsEarlier (o : ℕ) (l : Line) : Type 0 where
   pub caller : l.caller ≡ 1
   pub ordinal : l.ordinal < o
-  pub probe : probe_of l.call ≡ None
 
 -- what is known of a cell before the call with this ordinal
 pub record IsSoFar (o : ℕ) (c : CellRun) : Type 0 where
@@ -55,6 +54,7 @@ pub record IsSoFar (o : ℕ) (c : CellRun) : Type 0 where
   pub value : c.value ≡ last_value c.first c.lines
   pub position : c.position ≡ position_after 0 c.lines
   pub order : InOrder c.lines
+  pub probes : ProbesFrom c.first [] c.lines
   pub earlier : AllByRecursion (IsEarlier o) c.lines
   pub low : c.position < o
 

@@ -9,7 +9,7 @@ use Rattle.runs.specs.OneThread.{IsEarlier, IsSoFar, AreSoFar}
 
 pub earlier_later : (o : ℕ) (h : List Line) → AllByRecursion (IsEarlier o) h → AllByRecursion (IsEarlier (o + 1)) h
 earlier_later o [] all = tt
-earlier_later o (l ∷ h) all = (record { caller = all.0.caller; ordinal = let e = all.0.ordinal in omega arith; probe = all.0.probe }, earlier_later o h all.1)
+earlier_later o (l ∷ h) all = (record { caller = all.0.caller; ordinal = let e = all.0.ordinal in omega arith }, earlier_later o h all.1)
 
 -- the next ordinal may be left out
 pub so_far_later : (o : ℕ) (c : CellRun) → IsSoFar o c → IsSoFar (o + 1) c
@@ -20,6 +20,7 @@ so_far_later o c s = record {
   value = s.value;
   position = s.position;
   order = s.order;
+  probes = s.probes;
   earlier = earlier_later o c.lines s.earlier;
   low = let e = s.low in omega arith;
 }

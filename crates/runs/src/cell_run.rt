@@ -1,19 +1,20 @@
 //! A cell during a run on one thread.
-ghost use Rattle.std.specs.Prelude.{◌≡◌, ◌<◌, ◌^◌, true, false, is_some, IfOk, OnOk, None};
-ghost use Rattle.std.specs.Prelude.{unwrap_or, []};
+ghost use Rattle.std.specs.Prelude.{◌≡◌, ◌<◌, ◌^◌, true, false, is_some, IfOk, OnOk, Some};
+ghost use Rattle.std.specs.Prelude.{unwrap_or, [], ℕ};
 ghost use Rattle.std.specs.Result.{is_ok};
 ghost use Rattle.plain_model.specs.declared.commands.PlainCall.TheVariants as calls;
-ghost use Rattle.plain_model.specs.History.{probe_of};
-ghost use Rattle.plain_model.specs.Plain.{first_value, is_unset, made};
+ghost use Rattle.plain_model.specs.Cell.{is_map};
+ghost use Rattle.plain_model.specs.History.{MayProbe, probe_of};
+ghost use Rattle.plain_model.specs.Plain.{first_value, is_unset, made, shape_of};
 ghost use Rattle.plain_model.specs.Sources.{is_within};
 ghost use Rattle.cell_calls.specs.Calls.{Suits, plain_call};
 ghost use Rattle.cell_calls.specs.Outcomes.{installs_of, plain_outcome};
 ghost use Rattle.runs.specs.OneThread.{next_position, after_call, HasCalled, IsSoFar, report_of};
 
-use cell_calls::{CellCall, Outcome};
+use cell_calls::{CellCall, Outcome, value_in};
 use collections::Collection;
-use imm_base::{Dup, Edit, Memory};
-use plain_model::{CellDecl, CellReport, Line, Listed, Plain, PlainCall};
+use imm_base::{Dup, Edit, Memory, Val};
+use plain_model::{CellDecl, CellReport, Factory, Line, Listed, Plain, PlainCall, Probe};
 use std::alloc::Global;
 
 /// A cell during a run: its declaration, its first value, and its value, position and history so
@@ -91,12 +92,12 @@ impl CellRun {
         Ok(())
     }
 
-    /// Makes a call.
+    /// Makes a call, whose factory, if it has one, may have run so.
     pub fn call(&mut self, alloc: Global, ordinal: u64, call: CellCall) -> Result<(), Memory>
         requires so_far { IsSoFar ordinal self.old }
         requires fits { ordinal < 2 ^ 63 }
         requires suits { Suits call self.old.decl.kind }
-        requires probe { probe_of (plain_call call) ≡ None }
+        requires probe { MayProbe self.old.first self.old.lines 1 (probe_of (plain_call call)) }
         ensures { OnOk result (HasCalled ordinal (plain_call call) self.old self.new) }
     {
         let outcome = call.apply(alloc, &self.value)?;
@@ -118,6 +119,41 @@ impl CellRun {
         let _count = value.count();
         self.call(alloc, ordinal, CellCall::Plain(PlainCall::Read))?;
         Ok(value)
+    }
+
+    // Whether a factory runs now for this key.
+    fn probe(&self, alloc: Global, key: &Val) -> Result<Probe, Memory>
+        requires so_far { (ordinal : ℕ) × IsSoFar ordinal self.now }
+        requires map { is_map (shape_of self.now.decl.kind) ≡ true }
+        ensures { IfOk result (λ probe. MayProbe self.now.first self.now.lines 1 (Some (key.now, probe))) }
+    {
+        match value_in(alloc, &self.value, key)? {
+            Some(_) => Ok(Probe::Idle),
+            None => Ok(Probe::Ran {
+                position: self.position,
+            }),
+        }
+    }
+
+    /// Adds the pair of a key and the value that a factory makes of it, where the key is absent, and
+    /// answers whether the factory ran.
+    pub fn get_or_add_made(
+        &mut self,
+        alloc: Global,
+        ordinal: u64,
+        key: Val,
+        make: Factory,
+    ) -> Result<Probe, Memory>
+        requires so_far { IsSoFar ordinal self.old }
+        requires fits { ordinal < 2 ^ 63 }
+        requires map { is_map (shape_of self.old.decl.kind) ≡ true }
+        ensures { IfOk result (λ probe. HasCalled ordinal
+            (calls.GetOrAddMade key make probe) self.old self.new) }
+    {
+        let probe = self.probe(alloc, &key)?;
+        let call = PlainCall::GetOrAddMade(key, make, probe);
+        self.call(alloc, ordinal, CellCall::Plain(call))?;
+        Ok(probe)
     }
 
     /// What is told of the cell after the last call.

@@ -5,14 +5,14 @@ ghost use Rattle.plain_model.specs.declared.commands.PlainCall.TheVariants as ca
 ghost use Rattle.plain_model.specs.declared.plain.Kind.{Kind};
 ghost use Rattle.plain_model.specs.Plain.{is_unset};
 ghost use Rattle.cell_calls.specs.Calls.{plain_call};
-ghost use Rattle.runs.specs.Calls.{MayCall};
+ghost use Rattle.runs.specs.Calls.{HasKeys, MayCall};
 ghost use Rattle.runs.specs.Notes.{Note, Makes};
 ghost use Rattle.runs.specs.Places.{cell_place};
 
 use cell_calls::CellCall;
 use collections::Collection;
-use imm_base::{Memory, Text24};
-use plain_model::CellDecl;
+use imm_base::{Memory, Text24, Val};
+use plain_model::{CellDecl, Factory, Probe};
 use std::alloc::Global;
 
 /// The cells of a run, as one worker calls them, with rising ordinals. A cell is called by its
@@ -41,6 +41,24 @@ pub trait Cells {
         ensures kinds { OnOk result (kinds self.new ≡ kinds self.old) }
         ensures ready { OnOk result (ready self.new (ordinal + 1)) }
         ensures makes { OnOk result (Makes makes self.old place ordinal (plain_call call) None self.new) };
+
+    /// Adds the pair of a key and the value that a factory makes of it, where the key is absent, and
+    /// answers whether the factory ran.
+    fn get_or_add_made(
+        &mut self,
+        alloc: Global,
+        place: usize,
+        ordinal: u64,
+        key: Val,
+        make: Factory,
+    ) -> Result<Probe, Memory>
+        requires keys { HasKeys (kinds self.old) place }
+        requires ready { ready self.old ordinal }
+        requires fits { ordinal < 2 ^ 63 }
+        ensures kinds { OnOk result (kinds self.new ≡ kinds self.old) }
+        ensures ready { OnOk result (ready self.new (ordinal + 1)) }
+        ensures makes { IfOk result (λ probe. Makes makes self.old place ordinal
+            (calls.GetOrAddMade key make probe) None self.new) };
 
     /// Reads the value of a cell.
     fn read(&mut self, alloc: Global, place: usize, ordinal: u64) -> Result<Collection, Memory>

@@ -8,7 +8,8 @@ mod cells;
 mod one_thread;
 mod run;
 mod work;
+mod worker;
 
 pub use cells::Cells;
 pub use run::run_alone;
-pub use work::run_parts;
+pub use worker::run_parts;

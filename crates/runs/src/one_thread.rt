@@ -7,7 +7,8 @@ use crate::cell_run::CellRun;
 use crate::cells::Cells;
 use cell_calls::CellCall;
 use collections::Collection;
-use imm_base::Memory;
+use imm_base::{Memory, Val};
+use plain_model::{Factory, Probe};
 use std::alloc::Global;
 
 /// The cells of a run on one thread.
@@ -32,6 +33,18 @@ impl Cells for OneThread {
     ) -> Result<(), Memory> {
         self.cells[place].call(alloc, ordinal, call)?;
         Ok(())
+    }
+
+    fn get_or_add_made(
+        &mut self,
+        alloc: Global,
+        place: usize,
+        ordinal: u64,
+        key: Val,
+        make: Factory,
+    ) -> Result<Probe, Memory> {
+        let probe = self.cells[place].get_or_add_made(alloc, ordinal, key, make)?;
+        Ok(probe)
     }
 
     fn read(&mut self, alloc: Global, place: usize, ordinal: u64) -> Result<Collection, Memory> {

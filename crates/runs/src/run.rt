@@ -10,7 +10,7 @@ ghost use Rattle.runs.specs.OneThread.{IsSoFar, report_of};
 
 use crate::cell_run::CellRun;
 use crate::one_thread::OneThread;
-use crate::work::run_parts;
+use crate::worker::run_parts;
 use imm_base::Memory;
 use plain_model::{CellDecl, CellReport, Listed, Report, Script};
 use std::alloc::Global;

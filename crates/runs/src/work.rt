@@ -1,25 +1,22 @@
-//! What a worker's commands do, one after another.
-ghost use Rattle.std.specs.Prelude.{◌≡◌, ◌+◌, ◌<◌, ◌≤◌, ◌^◌, true, OnOk, IfOk, Some, None, ◌∷◌, [], ◌++◌};
+//! What a worker's command does.
+ghost use Rattle.std.specs.Prelude.{◌≡◌, ◌+◌, ◌<◌, ◌^◌, true, OnOk, None, ◌∷◌, [], ◌++◌};
 ghost use Rattle.std.specs.Prelude.{length, nat_lt};
-ghost use Rattle.std.specs.List.{AllByRecursion};
-ghost use Rattle.plain_model.specs.declared.limits.TheConstants.{COMMANDS_LIMIT, PARTS_LIMIT, PUBLISH_LIMIT};
+ghost use Rattle.plain_model.specs.declared.limits.TheConstants.{PUBLISH_LIMIT};
 ghost use Rattle.plain_model.specs.declared.commands.Command.TheVariants as commands;
-ghost use Rattle.plain_model.specs.Lawful.{parts_of};
-ghost use Rattle.plain_model.specs.Locals.{no_locals};
 ghost use Rattle.plain_model.specs.Work.{call_of};
 ghost use Rattle.cell_calls.specs.Calls.{plain_call};
-ghost use Rattle.runs.specs.Calls.{MayCall};
+ghost use Rattle.runs.specs.Calls.{HasKeys, MayCall};
 ghost use Rattle.runs.specs.Places.{AreApart, cell_place, kinds_of};
-ghost use Rattle.runs.specs.Needs.{CanAnswer, CanCallOrAnswer, CanDo, CanDoAll, CanPublish};
+ghost use Rattle.runs.specs.Needs.{CanAnswer, CanCallOrAnswer, CanDo, CanPublish};
 ghost use Rattle.runs.specs.Notes.{Makes};
-ghost use Rattle.runs.specs.Works.{AnswersLocally, IsDone, PartIsDone, WorkIsDone, commands_for};
+ghost use Rattle.runs.specs.Works.{AnswersLocally, IsDone};
 
 use crate::calls::call_of;
 use crate::cells::{Cells, cell_place};
 use cell_calls::CellCall;
-use imm_base::{Dup, Memory, Text24};
+use imm_base::{Dup, Memory, Text24, Val};
 use locals::Locals;
-use plain_model::{Answer, CellDecl, Command, Listed, LocalLine, PUBLISH_LIMIT, Part, Refusal};
+use plain_model::{Answer, CellDecl, Command, Factory, Listed, LocalLine, PUBLISH_LIMIT, Refusal};
 use std::alloc::Global;
 
 /// What a worker has beside its cells: its local names, and its lines so far.
@@ -141,6 +138,31 @@ fn publish<T: Cells>(
     Ok(())
 }
 
+// `getoraddf`
+fn get_or_add_made<T: Cells>(
+    alloc: Global,
+    decls: &[CellDecl],
+    cells: &mut T,
+    ordinal: u64,
+    cell: &Text24,
+    key: &Val,
+    make: &Factory,
+) -> Result<(), Memory>
+    requires apart { AreApart decls.now }
+    requires kinds { T.kinds cells.old ≡ kinds_of decls.now }
+    requires ready { T.ready cells.old ordinal }
+    requires fits { ordinal < 2 ^ 63 }
+    requires keys { HasKeys (kinds_of decls.now) (cell_place decls.now cell.now) }
+    ensures kinds { OnOk result (T.kinds cells.new ≡ kinds_of decls.now) }
+    ensures ready { OnOk result (T.ready cells.new (ordinal + 1)) }
+    ensures done { OnOk result ((worker : _) → IsDone T.makes decls.now ordinal
+        (commands.GetOrAddMade cell.now key.now make.now) cells.old worker cells.new worker) }
+{
+    let place = cell_place(decls, cell);
+    cells.get_or_add_made(alloc, place, ordinal, *key, *make)?;
+    Ok(())
+}
+
 // A local command.
 fn answer(alloc: Global, worker: &mut Worker, ordinal: u64, command: &Command) -> Result<(), Memory>
     requires { CanAnswer command.now worker.old.names }
@@ -211,87 +233,9 @@ pub(crate) fn run_command<T: Cells>(
         Command::Publish(cell, name) => publish(
             alloc, decls, cells, worker, ordinal, command, cell, name,
         ),
+        Command::GetOrAddMade(cell, key, make) => {
+            get_or_add_made(alloc, decls, cells, ordinal, cell, key, make)
+        }
         _ => call_or_answer(alloc, decls, cells, worker, ordinal, command),
     }
-}
-
-/// Does the commands of one part of the worker with this number, the first of which has this
-/// ordinal. A part begins with no names.
-fn run_part<T: Cells>(
-    alloc: Global,
-    decls: &[CellDecl],
-    cells: &mut T,
-    worker: &mut Worker,
-    number: u32,
-    ordinal: u64,
-    commands: &[Command],
-) -> Result<(), Memory>
-    requires apart { AreApart decls.now }
-    requires kinds { T.kinds cells.old ≡ kinds_of decls.now }
-    requires ready { T.ready cells.old ordinal }
-    requires fits { ordinal + length commands.now < 2 ^ 63 }
-    requires can { CanDoAll decls.now commands.now no_locals }
-    ensures kinds { OnOk result (T.kinds cells.new ≡ kinds_of decls.now) }
-    ensures ready { OnOk result (T.ready cells.new (ordinal + length commands.now)) }
-    ensures done { OnOk result (PartIsDone T.makes decls.now ordinal commands.now
-        cells.old worker.old.lines cells.new worker.new.lines) }
-{
-    worker.names = Locals::new(alloc);
-    let mut next = ordinal;
-    for command in commands {
-        cells.before(number, next)?;
-        run_command(alloc, decls, cells, worker, next, command)?;
-        cells.after(number, next);
-        next += 1;
-    }
-    Ok(())
-}
-
-// The commands of the part with this number, if the worker does it, and else none.
-fn commands_for(part: &Part, number: u32, worker: u32, workers: u32) -> &[Command]
-    requires { 0 < workers }
-    ensures { result.now ≡ commands_for worker workers number part.now }
-{
-    if number % workers == worker % workers {
-        return part.commands.as_slice();
-    }
-    &[]
-}
-
-/// Does those of the parts that are this worker's among so many, one after another, and answers the
-/// worker's local lines. Workers are counted from 1. `Err` is want of memory; which calls were made
-/// then no clause says.
-pub fn run_parts<T: Cells>(
-    alloc: Global,
-    decls: &[CellDecl],
-    cells: &mut T,
-    parts: &[Part],
-    number: u32,
-    workers: u32,
-) -> Result<Listed<LocalLine>, Memory>
-    requires apart { AreApart decls.now }
-    requires kinds { T.kinds cells.old ≡ kinds_of decls.now }
-    requires ready { T.ready cells.old 1 }
-    requires workers { 0 < workers }
-    requires count { length parts.now ≤ PARTS_LIMIT }
-    requires few { AllByRecursion (λ p. length p.commands ≤ COMMANDS_LIMIT) parts.now }
-    requires can { AllByRecursion (λ p. CanDoAll decls.now p.commands no_locals) parts.now }
-    ensures kinds { OnOk result (T.kinds cells.new ≡ kinds_of decls.now) }
-    ensures ready { OnOk result ((o : _) × T.ready cells.new o) }
-    ensures done { IfOk result (λ lines. WorkIsDone T.makes decls.now
-        (parts_of number workers parts.now) cells.old cells.new lines) }
-{
-    let mut worker = Worker {
-        names: Locals::new(alloc),
-        lines: Listed::new(alloc),
-    };
-    let mut ordinal = 1;
-    let mut place = 1;
-    for part in parts {
-        let commands = commands_for(part, place, number, workers);
-        run_part(alloc, decls, cells, &mut worker, number, ordinal, commands)?;
-        ordinal += commands.len() as u64;
-        place += 1;
-    }
-    Ok(worker.lines)
 }

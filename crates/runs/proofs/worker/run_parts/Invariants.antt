@@ -2,7 +2,7 @@ use Rattle.std.proofs.Common.{◌≡◌, ◌+◌, ◌*◌, ◌≤◌, take}
 use Rattle.runs.specs.Places.{kinds_of}
 use Rattle.runs.specs.Works.{WorkIsDone, ordinal_after}
 use Rattle.runs.proofs.Parts.{parts_for}
-use Rattle.runs.proofs.work.run_parts.Given as goal
+use Rattle.runs.proofs.worker.run_parts.Given as goal
 
 abbrev pub invariant-loop-part : goal.invariant-loop-part
 invariant-loop-part g l = record {

@@ -1,7 +1,7 @@
 use Rattle.std.proofs.Common.{◌≡◌, ◌+◌, ◌∷◌, ◌++◌, drop, ap, sym, ◌∙◌, subst, refl, arith}
 use Rattle.std.proofs.lemmas.List.{drop_more, drop_all}
 use Rattle.runs.proofs.Parts.{InPart, part_begins, part_goes_on, part_ends}
-use Rattle.runs.proofs.work.run_part.Goals as goal
+use Rattle.runs.proofs.worker.run_part.Goals as goal
 
 pub loop-command-init : goal.loop-command-init
 loop-command-init g c = record {

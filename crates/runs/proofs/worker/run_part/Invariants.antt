@@ -1,7 +1,7 @@
 use Rattle.std.proofs.Common.{◌≡◌, ◌+◌, length, drop}
 use Rattle.runs.specs.Places.{kinds_of}
 use Rattle.runs.proofs.Parts.{InPart}
-use Rattle.runs.proofs.work.run_part.Given as goal
+use Rattle.runs.proofs.worker.run_part.Given as goal
 
 abbrev pub invariant-loop-command : goal.invariant-loop-command
 invariant-loop-command g l = record {

@@ -5,7 +5,7 @@ use Rattle.plain_model.specs.Locals.{no_locals}
 use Rattle.runs.specs.Needs.{CanDoAll}
 use Rattle.runs.specs.Works.{WorkIsDone, ordinal_after}
 use Rattle.runs.proofs.Parts.{work_begins, work_goes_on, work_ends, after_on, at_index, parts_for, parts_more, few_for, can_for}
-use Rattle.runs.proofs.work.run_parts.Goals as goal
+use Rattle.runs.proofs.worker.run_parts.Goals as goal
 
 pub loop-part-init : goal.loop-part-init
 loop-part-init g c = record {
