@@ -1,11 +1,15 @@
 -- What a worker's logs are after its calls.
 use Rattle.std.proofs.Common.{◌≡◌, ℕ, ◌+◌, ◌*◌, ◌<◌, ◌≤◌, Bool, true, false, MatchBool, List, [], ◌∷◌, ◌++◌, length, None, Some, refl, ap, sym, subst, ◌∙◌, arith, append_assoc}
-use Rattle.std.specs.Prelude.{Option, IfSome, map, if◌then◌else◌}
+use Rattle.std.specs.Prelude.{Option, IfSome, is_some, map, if◌then◌else◌}
 use Rattle.std.specs.List.{AllByRecursion}
 use Rattle.std.proofs.lemmas.List.{append-nil, length-append}
 use lib.ListN.{get_elem?}
+use Rattle.imm_base.specs.declared.val.Val.{Val}
+use Rattle.plain_model.specs.declared.commands.Probe.{Probe}
+use Rattle.plain_model.specs.declared.commands.Probe.TheVariants.{Idle, Ran}
 use Rattle.plain_model.specs.declared.plain.Plain.{Plain}
 use Rattle.plain_model.specs.declared.history.Line.{Line}
+use Rattle.plain_model.specs.History.{probe_of}
 use Rattle.atomic_table.proofs.Lists.{at_longer}
 use Rattle.version_slots.specs.Histories.{StartsWith}
 use Rattle.version_slots.specs.declared.view.Line.{Line as Version}
@@ -18,8 +22,8 @@ use Rattle.interlocked.proofs.Rights.{answered_later, installed_later}
 use Rattle.history_merge.specs.Lines.{installed_of, is_below, place_of}
 use Rattle.history_merge.specs.Logs.{entry_of}
 use Rattle.history_merge.proofs.Order.{lex_tied}
-use Rattle.seats.specs.Seats.{IsLineOf}
-use Rattle.seats.specs.Logs.{StandsIn, IsLogged}
+use Rattle.seats.specs.Seats.{HasProbed, IsLineOf}
+use Rattle.seats.specs.Logs.{BearsOut, IsLogged, LooksFrom, StandsIn}
 
 -- ---- what stays as the history grows
 
@@ -75,7 +79,8 @@ log_begins p = record {
   behind = tt;
   rising = tt;
   ordinals = tt;
-  probes = tt;
+  probed = tt;
+  looks = λ k lt. tt;
 }
 
 -- the entries of the line's own call
@@ -113,6 +118,25 @@ module _ (p q r : Known) (l : Line) (read : Option Plain) (log : List Line) (n :
     all_below ms behind.1 by.1 up.1,
   )
 
+  -- what the call told of its factory is borne out by all that is seen later
+  borne_out : (o : Option (Val × Probe)) → HasProbed p l.reply q n.stamp o → BearsOut r.view.seen l o
+  borne_out None h' = tt
+  borne_out (Some (key, Idle)) h' = record {
+    got = h'.got;
+    shown = subst (λ i. Shows r.view.seen i h'.got) n.position (shows_later r.view.seen q.view.seen h.later.seen n.stamp.position h'.got h'.there);
+    found = ap is_some h'.present;
+  }
+  borne_out (Some (key, Ran position)) h' = (
+    record { got = h'.got; shown = shows_later r.view.seen q.view.seen h.later.seen position h'.got h'.there; found = ap is_some h'.absent },
+    subst (λ (t : Bool × ℕ). MatchBool t.0 (position < t.1) (position ≤ t.1)) (λ i. (n.installed i, n.position i)) h'.before,
+  )
+
+  -- its look was behind all that had been seen
+  looks_from : (k : ℕ) → k < length p.view.seen → (o : Option (Val × Probe)) → HasProbed p l.reply q n.stamp o → LooksFrom k o
+  looks_from k lt None h' = tt
+  looks_from k lt (Some (key, Idle)) h' = tt
+  looks_from k lt (Some (key, Ran position)) h' = let e = h'.behind in omega arith
+
   pub log_front : IsLogged p r (l ∷ log)
   log_front = record {
     later = record {
@@ -127,7 +151,8 @@ module _ (p q r : Known) (l : Line) (read : Option Plain) (log : List Line) (n :
     behind = (place_behind l (length p.view.seen) n.stamp.position n.stamp.installed n.position n.installed n.made.behind, all_behind log h.behind);
     rising = (all_below log h.behind h.by above, h.rising);
     ordinals = (above, h.ordinals);
-    probes = (n.probe, h.probes);
+    probed = (borne_out (probe_of l.call) n.probe, h.probed);
+    looks = λ k lt. (looks_from k lt (probe_of l.call) n.probe, h.looks l.position (let e = n.made.within in let f = n.position in omega arith));
   }
     where
       more : (b : Bool) → (added p.view.mine ++ (if b then entry_of l ∷ [] else [])) ++ map entry_of (installed_of log) ≡ added p.view.mine ++ map entry_of (if b then l ∷ installed_of log else installed_of log)

@@ -1,9 +1,13 @@
 -- A worker's seat at cells that several workers share: a pass and a log for each.
-use Rattle.std.specs.Prelude.{◌≡◌, ℕ, ◌<◌, ◌++◌, List, [], ◌∷◌, None, Option, IfSome, length, slice_index_or, slice_set}
+use Rattle.std.specs.Prelude.{◌≡◌, ℕ, ◌<◌, ◌++◌, List, [], ◌∷◌, Some, None, Option, IfSome, length, slice_index_or, slice_set}
+use Rattle.imm_base.specs.declared.val.Val.{Val}
+use Rattle.plain_model.specs.declared.commands.Probe.{Probe}
 use Rattle.plain_model.specs.declared.plain.Plain.{Plain}
 use Rattle.plain_model.specs.declared.history.Line.{Line}
+use Rattle.plain_model.specs.declared.history.Reply.{Reply}
 use Rattle.plain_model.specs.History.{probe_of}
 use Rattle.interlocked.specs.declared.answers.Stamp.{Stamp}
+use Rattle.interlocked.specs.Factories.{Probes}
 use Rattle.interlocked.specs.Known.{Known, Shared, IsLater}
 use Rattle.interlocked.specs.Rights.{Made, Shows}
 use Rattle.runs.specs.Notes.{Note}
@@ -23,7 +27,12 @@ pub record IsReadyFor (s : Seated) (o : ℕ) : Type 0 where
   pub below : (k : ℕ) (p : Known) → k < length s.cells → (slice_index_or s.passes k p).last < o
   pub last : s.last < o
 
--- a pass made the call of this line, in which no factory ran, or the read with this value
+-- whether the factory of a call ran, where it has one, and where the call looked
+abbrev pub HasProbed : Known → Reply → Known → Stamp → Option (Val × Probe) → Type 0
+HasProbed p reply q stamp None = Unit {0}
+HasProbed p reply q stamp (Some (key, probe)) = Probes p key reply q stamp probe
+
+-- a pass made the call of this line, or the read with this value
 pub record IsLineOf (p q : Known) (l : Line) (read : Option Plain) : Type 0 where
   pub stamp : Stamp
   pub later : IsLater p q
@@ -31,7 +40,7 @@ pub record IsLineOf (p q : Known) (l : Line) (read : Option Plain) : Type 0 wher
   pub installed : stamp.installed ≡ l.installed
   pub caller : l.caller ≡ p.view.number
   pub made : Made p.view q.view l.ordinal l.call l.reply stamp
-  pub probe : probe_of l.call ≡ None
+  pub probe : HasProbed p l.reply q stamp (probe_of l.call)
   pub value : IfSome read (Shows q.view.seen l.position)
 
 -- one call or read on the cell at a place: its line stands behind those of the log there

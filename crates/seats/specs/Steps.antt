@@ -7,6 +7,7 @@ use Rattle.plain_model.specs.declared.plain.Kind.{Kind}
 use Rattle.plain_model.specs.declared.plain.Plain.{Plain}
 use Rattle.plain_model.specs.History.{numbered}
 use Rattle.interlocked.specs.declared.answers.Stamp.{Stamp}
+use Rattle.interlocked.specs.Called.{IsDone}
 use Rattle.interlocked.specs.Known.{Known, Shared}
 use Rattle.runs.specs.Notes.{Makes}
 use Rattle.seats.specs.declared.places.Places.{Places}
@@ -29,6 +30,13 @@ stamped_line caller o call reply stamp = record {
   reply = reply;
   installed = stamp.installed;
 }
+
+-- a pass did this call, and its line stands behind the log
+pub record IsDoneAndNoted (p : Known) (log : List Line) (o : ℕ) (call : PlainCall) (q : Known) (log' : List Line) : Type 0 where
+  pub reply : Reply
+  pub stamp : Stamp
+  pub done : IsDone p o call q reply stamp
+  pub grown : log' ≡ log ++ stamped_line p.view.number o call reply stamp ∷ []
 
 -- a pass made this call, or read this value, and the log has one line more
 pub record IsCalled (p : Known) (log : List Line) (o : ℕ) (call : PlainCall) (read : Option Plain) (q : Known) (log' : List Line) : Type 0 where

@@ -1,20 +1,22 @@
 //! A worker's passes and logs, and its calls.
-ghost use Rattle.std.specs.Prelude.{◌≡◌, ◌+◌, ◌<◌, ◌++◌, ◌∷◌, [], IfOk, None, OnOk, Some, false, length, slice_get};
+ghost use Rattle.std.specs.Prelude.{◌≡◌, ◌+◌, ◌<◌, ◌++◌, ◌∷◌, [], IfOk, None, OnOk, Some, false, length, slice_get, true};
 ghost use Rattle.plain_model.specs.declared.commands.PlainCall.TheVariants as calls;
+ghost use Rattle.plain_model.specs.Cell.{is_map};
 ghost use Rattle.plain_model.specs.History.{probe_of};
-ghost use Rattle.plain_model.specs.Plain.{is_unset};
+ghost use Rattle.plain_model.specs.Plain.{is_unset, shape_of};
 ghost use Rattle.cell_calls.specs.Calls.{Suits, plain_call};
-ghost use Rattle.runs.specs.Calls.{MayCall};
+ghost use Rattle.interlocked.specs.Factories.{Looks};
+ghost use Rattle.runs.specs.Calls.{HasKeys, MayCall};
 ghost use Rattle.seats.specs.Seats.{IsReadyFor};
-ghost use Rattle.seats.specs.Steps.{HasCalledAt, IsCalled, kinds_in, seated, stamped_line};
+ghost use Rattle.seats.specs.Steps.{HasCalledAt, IsCalled, IsDoneAndNoted, kinds_in, seated, stamped_line};
 
 use crate::passes::SharedPass;
 use crate::shared::{CellChange, CellValue, SharedCell};
-use cell_calls::CellCall;
+use cell_calls::{CellCall, value_in};
 use collections::Collection;
-use imm_base::{Memory, Tokens};
+use imm_base::{Memory, Tokens, Val};
 use interlocked::Stamp;
-use plain_model::{Line, Listed, PlainCall, Reply};
+use plain_model::{Factory, Line, Listed, PlainCall, Probe, Reply};
 use std::alloc::Global;
 use std::sync::Wait;
 
@@ -49,7 +51,30 @@ fn push_line(
     Ok(())
 }
 
-// Makes a call on one cell, and notes it.
+// Makes a call on one cell, and notes it. What its factory did, if it has one, this does not tell.
+fn note_call<R: Wait>(
+    rt: &R,
+    alloc: Global,
+    cell: &SharedCell,
+    pass: &mut SharedPass,
+    log: &mut Listed<Line>,
+    ordinal: u64,
+    call: CellCall,
+) -> Result<(), Memory>
+    requires own { pass.old.table ≡ cell.now.table }
+    requires above { pass.old.last < ordinal }
+    requires suits { Suits call pass.old.kind }
+    ensures { OnOk result (IsDoneAndNoted pass.old log.old ordinal (plain_call call) pass.new log.new) }
+{
+    let caller = pass.number();
+    let change = CellChange { call };
+    let (reply, stamp) = cell.call(rt, alloc, &mut pass.pass, ordinal, &change)?;
+    let call = change.call.into_plain(alloc)?;
+    push_line(log, caller, ordinal, call, reply, &stamp)?;
+    Ok(())
+}
+
+// Makes a call without a factory on one cell, and notes it.
 fn call_one<R: Wait>(
     rt: &R,
     alloc: Global,
@@ -65,12 +90,57 @@ fn call_one<R: Wait>(
     requires probe { probe_of (plain_call call) ≡ None }
     ensures { OnOk result (IsCalled pass.old log.old ordinal (plain_call call) None pass.new log.new) }
 {
-    let caller = pass.number();
-    let change = CellChange { call };
-    let (reply, stamp) = cell.call(rt, alloc, &mut pass.pass, ordinal, &change)?;
-    let call = change.call.into_plain(alloc)?;
-    push_line(log, caller, ordinal, call, reply, &stamp)?;
+    note_call(rt, alloc, cell, pass, log, ordinal, call)?;
     Ok(())
+}
+
+// Reads the value of a key at one cell, if it has one.
+fn look_up<R: Wait>(
+    rt: &R,
+    alloc: Global,
+    cell: &SharedCell,
+    pass: &mut SharedPass,
+    key: &Val,
+) -> Result<(Option<Val>, Stamp), Memory>
+    requires own { pass.old.table ≡ cell.now.table }
+    requires map { is_map (shape_of pass.old.kind) ≡ true }
+    ensures { IfOk result (λ t. Looks pass.old key.now t.0 pass.new t.1) }
+{
+    let (value, stamp) = cell.read(rt, &mut pass.pass)?;
+    let found = value_in(alloc, &value.collection, key)?;
+    Ok((found, stamp))
+}
+
+// Adds what a factory makes of a key to one cell, where the key is absent, and notes it.
+fn make_one<R: Wait>(
+    rt: &R,
+    alloc: Global,
+    cell: &SharedCell,
+    pass: &mut SharedPass,
+    log: &mut Listed<Line>,
+    ordinal: u64,
+    key: Val,
+    make: Factory,
+) -> Result<Probe, Memory>
+    requires own { pass.old.table ≡ cell.now.table }
+    requires above { pass.old.last < ordinal }
+    requires map { is_map (shape_of pass.old.kind) ≡ true }
+    ensures { IfOk result (λ probe. IsCalled pass.old log.old ordinal
+        (calls.GetOrAddMade key make probe) None pass.new log.new) }
+{
+    let caller = pass.number();
+    let (found, stamp) = look_up(rt, alloc, cell, pass, &key)?;
+    if let Some(value) = found {
+        let call = PlainCall::GetOrAddMade(key, make, Probe::Idle);
+        push_line(log, caller, ordinal, call, Reply::Value(value), &stamp)?;
+        return Ok(Probe::Idle);
+    }
+    let probe = Probe::Ran {
+        position: stamp.position,
+    };
+    let call = CellCall::Plain(PlainCall::GetOrAddMade(key, make, probe));
+    note_call(rt, alloc, cell, pass, log, ordinal, call)?;
+    Ok(probe)
 }
 
 // Reads one cell, and notes it.
@@ -128,6 +198,30 @@ impl Places {
         call_one(rt, alloc, &cells[place], pass, log, ordinal, call)?;
         self.last = ordinal;
         Ok(())
+    }
+
+    /// Adds what a factory makes of a key to the cell at a place, where the key is absent there, and
+    /// notes it.
+    pub fn get_or_add_made<R: Wait>(
+        &mut self,
+        rt: &R,
+        alloc: Global,
+        cells: &[SharedCell],
+        place: usize,
+        ordinal: u64,
+        key: Val,
+        make: Factory,
+    ) -> Result<Probe, Memory>
+        requires keys { HasKeys (kinds_in self.old.passes.items) place }
+        requires ready { IsReadyFor (seated cells.now self.old) ordinal }
+        ensures { IfOk result (λ probe. HasCalledAt (seated cells.now self.old) place ordinal
+            (calls.GetOrAddMade key make probe) None (seated cells.now self.new)) }
+    {
+        let pass = &mut self.passes[place];
+        let log = &mut self.logs[place];
+        let probe = make_one(rt, alloc, &cells[place], pass, log, ordinal, key, make)?;
+        self.last = ordinal;
+        Ok(probe)
     }
 
     /// Reads the cell at a place, and notes it.

@@ -9,8 +9,8 @@ use crate::places::Places;
 use crate::shared::SharedCell;
 use cell_calls::CellCall;
 use collections::Collection;
-use imm_base::{Gate, Memory};
-use plain_model::{Line, Listed};
+use imm_base::{Gate, Memory, Val};
+use plain_model::{Factory, Line, Listed, Probe};
 use runs::Cells;
 use std::alloc::Global;
 use std::marker::Model;
@@ -109,6 +109,20 @@ impl<'a, R: Wait, G: Gate> Cells for Seat<'a, R, G> {
         self.places
             .call(self.rt, alloc, self.cells, place, ordinal, call)?;
         Ok(())
+    }
+
+    fn get_or_add_made(
+        &mut self,
+        alloc: Global,
+        place: usize,
+        ordinal: u64,
+        key: Val,
+        make: Factory,
+    ) -> Result<Probe, Memory> {
+        let probe = self
+            .places
+            .get_or_add_made(self.rt, alloc, self.cells, place, ordinal, key, make)?;
+        Ok(probe)
     }
 
     fn read(&mut self, _: Global, place: usize, ordinal: u64) -> Result<Collection, Memory> {

@@ -2,6 +2,7 @@ pub mod Sends
 pub mod Lists
 pub mod Columns
 pub mod Histories
+pub mod Probes
 pub mod Reports
 pub mod Begins
 pub mod Gathered

@@ -1,6 +1,6 @@
 -- What all workers did, and what the cells ended with, make a lawful report.
-use Rattle.std.proofs.Common.{◌≡◌, ℕ, ◌+◌, ◌<◌, true, List, [], length, get_or, None, Some, refl, ap, sym, subst, ◌∙◌, arith}
-use Rattle.std.specs.Prelude.{Option, IfSome, find, is_none, map, slice_get, ◌==◌}
+use Rattle.std.proofs.Common.{◌≡◌, ℕ, ◌+◌, ◌<◌, List, [], length, get_or, None, Some, refl, ap, sym, subst, ◌∙◌, arith}
+use Rattle.std.specs.Prelude.{Option, IfSome, find, map, slice_get, ◌==◌}
 use Rattle.std.specs.List.{AllByRecursion}
 use Rattle.plain_model.specs.declared.plain.Plain.{Plain}
 use Rattle.plain_model.specs.declared.history.Line.{Line}
@@ -8,10 +8,9 @@ use Rattle.plain_model.specs.declared.report.CellDecl.{CellDecl}
 use Rattle.plain_model.specs.declared.report.CellReport.{CellReport}
 use Rattle.plain_model.specs.declared.report.LocalLine.{LocalLine}
 use Rattle.plain_model.specs.declared.report.Script.{Script}
-use Rattle.plain_model.specs.History.{Whole, numbered, probe_of, value_at}
+use Rattle.plain_model.specs.History.{Whole, numbered, value_at}
 use Rattle.plain_model.specs.Work.{calls_at, value_then, work_from}
 use Rattle.plain_model.specs.Lawful.{HasWorked, IsCellRun, Lawful, parts_of}
-use Rattle.plain_model.proofs.HistorySteps.{no_probes}
 use Rattle.interlocked.specs.Known.{Known, Shared}
 use Rattle.interlocked.specs.Rights.{Shows}
 use Rattle.interlocked.specs.Whole.{new_pass}
@@ -28,6 +27,7 @@ use Rattle.workers.specs.Closed.{AreClosed, AreLogged, IsClosed}
 use Rattle.workers.specs.Worked.{AreGathered, HaveWorked, column, passes_at}
 use Rattle.workers.proofs.Lists.{all_by_index, all_weaker, get_there, index_map, length_map, one_there, same_lists}
 use Rattle.workers.proofs.Histories.{last, shown}
+use Rattle.workers.proofs.Probes.{probes}
 
 -- what all workers noted of one cell, of what each of them did
 pub logged_at : (script : Script) (n : ℕ) (cells : List Shared) (seats : List Seated) (locals : List (List LocalLine)) → HaveWorked script n cells seats locals
@@ -49,29 +49,17 @@ logged_at script n cells seats locals worked c s q low = record {
 
 -- ---- one cell
 
-none_is : (l : Line) → is_none (probe_of l.call) ≡ true → probe_of l.call ≡ None
-none_is l e = split (probe_of l.call) e
-  where
-    split : {A : Type 0} (x : Option A) → is_none x ≡ true → x ≡ None
-    split None e = refl
-    split (Some x) e = cc
-
 cell_run : (n : ℕ) (d : CellDecl) (s : Shared) (h : Handed) (r : CellReport) → IsOpened n d s → AreLogged n s h → IsClosed d s h r → IsCellRun n r
 cell_run n d s h r opened are c = subst (IsCellRun n) (sym c.report) (record {
   first = opened.first;
   legal = record {
     steps = c.merged.steps;
     order = c.merged.order;
-    probes = no_probes s.first.value [] c.lines (all_weaker none_is c.lines (c.merged.all (λ l. is_none (probe_of l.call)) none));
+    probes = probes n d s h r are c;
   };
   callers = all_weaker (λ l by. let e = are.logs in (omega (arith, by.0), omega (arith, by.1))) c.lines c.merged.callers;
   last = last n s h are c.front c.kept c.whole ∙ sym c.merged.last;
 })
-  where
-    none : (k : ℕ) → k < length h.logs → AllByRecursion (λ l. is_none (probe_of l.call) ≡ true) (get_or h.logs k [])
-    none k lt =
-        let low : k < n = let e = are.logs in omega arith in
-        all_weaker (λ l e. ap (λ x. is_none x) e) (get_or h.logs k []) (are.each k (new_pass s.table 0 s.first 0) low).probes
 
 module _ (script : Script) (n : ℕ) (cells : List Shared) (columns : List Handed) (locals : List (List LocalLine)) (reports : List CellReport)
     (opened : AreCells n script.cells cells) (gathered : AreGathered script n cells columns locals) (closed : AreClosed script.cells cells columns reports) where

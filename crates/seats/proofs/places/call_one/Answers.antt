@@ -1,16 +1,6 @@
-use Rattle.std.proofs.Common.{[], ◌∷◌, ◌++◌, ◌∙◌, subst}
-use Rattle.interlocked.specs.Called.{IsDone}
-use Rattle.interlocked.specs.Known.{Known}
 use Rattle.cell_calls.specs.Calls.{plain_call}
-use Rattle.seats.specs.Steps.{stamped_line}
 use Rattle.seats.proofs.Lines.{call_line}
 use Rattle.seats.proofs.places.call_one.Goals as goal
 
 pub returns : goal.returns
-returns g c =
-    let o = c.args.ordinal in
-    let reply = c.in_ok-reply.reply in
-    let stamp = c.in_ok-reply.stamp in
-    call_line c.args.pass.now c.call.new.pass o stamp c.args.log.now c.push_line.new.log (plain_call c.args.call) reply
-    (subst (λ (p : Known). IsDone p o (plain_call c.args.call) c.call.new.pass reply stamp) c.pass.view_is c.in_ok-reply.ensures.done) c.requires.probe
-    (c.in_ok-push_line.ensures ∙ (λ i. c.args.log.now ++ stamped_line (c.number-caller.ensures i) o (c.in_ok-call.ensures i) reply stamp ∷ []))
+returns g c = call_line c.args.pass.now c.note_call.new.pass c.args.ordinal c.args.log.now c.note_call.new.log (plain_call c.args.call) c.in_ok-note_call.ensures c.requires.probe
