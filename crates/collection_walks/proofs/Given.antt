@@ -1,5 +1,5 @@
 -- The plain model's commands on walks give what the calls answer.
-use Rattle.std.proofs.Common.{◌≡◌, ℕ, refl, ap, Option, Some, None, Result, Ok, Err}
+use Rattle.std.proofs.Common.{◌≡◌, ◌∙◌, ℕ, refl, ap, Option, Some, None, Result, Ok, Err}
 use Rattle.plain_model.specs.declared.plain.Elem.{Elem}
 use Rattle.plain_model.specs.declared.report.Answer.TheVariants as answers
 use Rattle.plain_model.specs.Names.{Name}
