@@ -3,8 +3,8 @@ use Rattle.std.proofs.Common.{◌≡◌, ◌∙◌, ℕ, refl, ap, Option, Some,
 use Rattle.plain_model.specs.declared.plain.Elem.{Elem}
 use Rattle.plain_model.specs.declared.report.Answer.TheVariants as answers
 use Rattle.plain_model.specs.Names.{Name}
-use Rattle.plain_model.specs.Places.{Rest, Taking, take_place, WalkWhy, disposed, changed, no_current, rest_if_unchanged, current_of}
-use Rattle.plain_model.specs.Locals.{Locals, Given, walk_at, rest_of, version_now, unchanged_rest, next_answer, next_given, current_given, reset_given, dispose_given}
+use Rattle.plain_model.specs.Places.{Rest, Taking, take_place, WalkWhy, rest_if_unchanged, current_of}
+use Rattle.plain_model.specs.Locals.{Locals, walk_at, rest_of, version_now, unchanged_rest, next_answer, next_given, current_given, reset_given, dispose_given}
 use Rattle.enumerators.specs.declared.walk.Walk.{Walk}
 use Rattle.collection_walks.specs.Calls.{handle, own_rest, started, start_called, moved_on, next_called, shown, current_called, moved_back, reset_called, dispose_called}
 use Rattle.collection_walks.specs.Calls as calls

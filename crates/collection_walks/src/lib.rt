@@ -6,9 +6,11 @@
 //! `Walked::rest` of the builder answers. Copies of a handle are the same walk.
 #![tactic(auto)]
 
+mod laws;
 mod rests;
 mod walks;
 
 pub use enumerators::{Rest, Walk, Walked};
+pub use laws::commands_are_calls;
 pub use rests::rest_of;
 pub use walks::Walks;
