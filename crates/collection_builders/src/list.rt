@@ -16,9 +16,9 @@ use imm_list::ListFault;
 use plain_model::{Kind, PlainOp};
 use std::alloc::Global;
 
-type Builder = ListBuilder<Val>;
+type List = ListBuilder<Val>;
 
-impl BuilderOfKind for Builder {
+impl BuilderOfKind for List {
     ghost as_built = { built_map list_of };
 
     fn version(&self) -> u64 {
@@ -44,7 +44,7 @@ impl BuilderOfKind for Builder {
 }
 
 // Makes the change that an operation gives.
-fn change(builder: &mut Builder, alloc: Global, op: &PlainOp) -> Result<Step, ListFault>
+fn change(builder: &mut List, alloc: Global, op: &PlainOp) -> Result<Step, ListFault>
     requires within { are_within (op_values op.now) ≡ true }
     requires taken { list_builder_takes op.now ≡ true }
     requires counts { CanCount builder.old }

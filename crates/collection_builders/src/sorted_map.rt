@@ -16,9 +16,9 @@ use imm_base::{MapFault, Memory, Step, Val, ValOrder};
 use plain_model::{Kind, PlainOp};
 use std::alloc::Global;
 
-type Builder = MapBuilder<Val, Val, ValOrder>;
+type Map = MapBuilder<Val, Val, ValOrder>;
 
-impl BuilderOfKind for Builder {
+impl BuilderOfKind for Map {
     ghost as_built = { built_map sorted_map_of };
 
     fn version(&self) -> u64 {
@@ -44,7 +44,7 @@ impl BuilderOfKind for Builder {
 }
 
 // Makes the change that an operation gives. One that maps do not have makes none.
-fn change(builder: &mut Builder, alloc: Global, op: &PlainOp) -> Result<Step, MapFault<Val>>
+fn change(builder: &mut Map, alloc: Global, op: &PlainOp) -> Result<Step, MapFault<Val>>
     requires within { are_within (op_values op.now) ≡ true }
     requires counts { CanCount builder.old }
     ensures { Changes builder.old.contents.order result

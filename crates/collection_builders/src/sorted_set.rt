@@ -16,9 +16,9 @@ use imm_base::{Memory, SetFault, Step, Val, ValOrder};
 use plain_model::{Kind, PlainOp};
 use std::alloc::Global;
 
-type Builder = SetBuilder<Val, ValOrder>;
+type Set = SetBuilder<Val, ValOrder>;
 
-impl BuilderOfKind for Builder {
+impl BuilderOfKind for Set {
     ghost as_built = { built_map sorted_set_of };
 
     fn version(&self) -> u64 {
@@ -44,7 +44,7 @@ impl BuilderOfKind for Builder {
 }
 
 // Makes the change that an operation gives. One that sets do not have makes none.
-fn change(builder: &mut Builder, alloc: Global, op: &PlainOp) -> Result<Step, SetFault>
+fn change(builder: &mut Set, alloc: Global, op: &PlainOp) -> Result<Step, SetFault>
     requires within { are_within (op_values op.now) ≡ true }
     requires counts { CanCount builder.old }
     ensures { Changes builder.old.contents.order result
